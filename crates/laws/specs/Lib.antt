@@ -1,0 +1,9 @@
+pub mod Search
+pub mod Tests
+pub mod SearchLaws
+pub mod Sums
+pub mod Regions
+pub mod RingLaws
+pub mod Solver
+pub mod Signs
+pub mod Differences

@@ -1,0 +1,3 @@
+pub mod Table
+pub mod TableLaws
+pub mod Numbering
