@@ -5,7 +5,10 @@
 --   numbering              == post numbers are a numbering
 --   climb-between          == a node's number lies between the first and the last of each subtree that it is in,
 --   between-climb             and is in each such subtree
+--   in-subtree             == both, by the test `under`
+use mathlib.Core.Bool.{true}
 use mathlib.Core.List.{List, [], _∷_, _++_}
+use mathlib.Core.Logic.{_↔_}
 use mathlib.Core.Path.{_≡_, refl, sym, ap, ap₂, subst, subst⁻¹, _∙_}
 use Prim.Native.Nat.{ℕ, zero, suc, _+_, _-_, _*_, _≤_, _<_}
 use native.Mathlib.Omega.{arith}
@@ -13,9 +16,10 @@ use lib.ListN.{length, getD, length-append, List·getD-append}
 use lib.Seq.{getD-at, getD-append-add}
 use Rattle.laws.specs.Sums.{sum-more, sum-mono, sum-term}
 use Rattle.laws.specs.Tests.{by-lt}
+use Rattle.table.specs.Ancestry.{under-steps, steps-under}
 use Rattle.table.specs.Children.{childAt-only, ChildAt}
 use Rattle.table.specs.Postorder.{size, ahead, Block, start, child-at, block-of, order-length, root-size, size-step, start-root, start-child, number-is, number-le, first-is, node-at, at-place, place-of-number}
-use Rattle.table.specs.Table.{parent, rank, climb, children, childAt, forest, postorder, subtree, order, postNumber, firstNumber}
+use Rattle.table.specs.Table.{parent, rank, climb, under, children, childAt, forest, postorder, subtree, order, postNumber, firstNumber}
 use Rattle.table.specs.TableLaws.{Tree, tree-ranked}
 
 pub record Numbering (P R : List ℕ) (number : ℕ → ℕ) : Type 0 where
@@ -209,3 +213,18 @@ module _ {P R : List ℕ} (t : Tree P R) where
   pub number-at : (j : ℕ) → j < length P → (getD (order P R) j 0 < length P) × (postNumber P R (getD (order P R) j 0) ≡ j + 1)
   unfolding postNumber
   number-at j l = let p = at-place t j l in (p .0, omega (arith, p .1))
+
+  -- z is in v's subtree exactly when its number lies between v's first and last
+  pub in-subtree : (v z : ℕ) → v < length P → z < length P
+      → (under P v z ≡ true) ↔ ((firstNumber P R v ≤ postNumber P R z) × (postNumber P R z ≤ postNumber P R v))
+  in-subtree v z lv lz = (
+    (λ e.
+        let k = under-steps P v z e in
+        let b = climb-between (k .0) z lz in (
+          omega (arith, b .0, ap (start P R) (k .2), first-is t v lv),
+          omega (arith, b .1, ap (postNumber P R) (k .2)),
+        )),
+    (λ b.
+        let k = between-climb v z lv lz (omega (arith, b .0, first-is t v lv)) (b .1) in
+        steps-under P (t .inside) v z (k .0) lz (k .1)),
+  )
