@@ -63,5 +63,6 @@ unfolding count least tabulate isChild children isChildAt childAt forest postord
 five-numbers = refl
 
 pub five-firsts : tabulate 5 (firstNumber five-parents five-ranks) ≡ 1 ∷ 1 ∷ 4 ∷ 1 ∷ 2 ∷ []
-unfolding count least tabulate isChild children isChildAt childAt forest postorder subtree order place postNumber firstNumber
+unfolding count least tabulate isChild children isChildAt childAt forest postorder subtree order place postNumber
+    firstNumber
 five-firsts = refl
