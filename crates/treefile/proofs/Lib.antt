@@ -1,0 +1,4 @@
+pub mod Copies
+pub mod Loading
+pub mod Opening
+pub mod Encoding

@@ -1,0 +1,80 @@
+-- The numbers below v are decoded.
+use Prim.Native.Nat.{ℕ, _+_, _*_, _-_}
+use mathlib.Core.Path.{_∙_, refl, ap}
+use native.Mathlib.Omega.{arith}
+use lib.ListN.{length, set}
+use Rattle.treefile.specs.TreeFile.{wordAt, words}
+use Rattle.treefile.proofs.Copies.{Filled, filled-start, filled-step, filled-all}
+use Rattle.treefile.proofs.decode.Statement.{statement}
+use Rattle.treefile.proofs.decode.Tie as tie
+
+abbrev Inv-loop : tie.InvT-loop
+Inv-loop bytes a list₀ n v₀ list v = Filled (λ v. wordAt bytes (a + 4 * v)) 0 (length list₀) list₀ list v
+
+abbrev μ-loop : tie.MeasureT-loop
+μ-loop bytes a list₀ n v₀ list v = length list₀ - v
+
+loop-holds : tie.Need-loop-holds Inv-loop μ-loop
+loop-holds c = filled-start _ 0 _ _
+
+mul-word : tie.Need-mul-word Inv-loop μ-loop
+mul-word c = omega arith
+
+add-word : tie.Need-add-word Inv-loop μ-loop
+add-word c =
+    let at-entry = c .before .before .before .before in
+    omega (arith, at-entry .pre)
+
+word-requires : tie.Need-word-requires Inv-loop μ-loop
+word-requires c κs =
+    let at-entry = c .before .before .before .before in
+    omega (arith, at-entry .pre .0)
+
+put-requires : tie.Need-put-requires Inv-loop μ-loop
+put-requires c κs =
+    let at-word = c .before in
+    let at-loop = at-word .before .before in
+    (omega (arith, at-loop .loop .inv .kept .long), at-word .word .ensures .1)
+
+add-v : tie.Need-add-v Inv-loop μ-loop
+add-v c = omega arith
+
+loop-less : tie.Need-loop-less Inv-loop μ-loop
+loop-less c = omega arith
+
+loop-again : tie.Need-loop-again Inv-loop μ-loop
+loop-again c =
+    let at-put = c .before .before in
+    let at-word = at-put .before .before in
+    let at-loop-test = at-word .before in
+    let at-loop = at-loop-test .before in
+    filled-step (at-loop .loop .inv) (at-loop-test .loop-test .taken) (omega arith) (at-word .word .ensures .0)
+    (at-put .put .ensures ∙ ap (λ (k : ℕ). set (at-loop .loop .list) k (at-word .word .result)) (omega arith))
+
+same-length : tie.Need-same-length Inv-loop μ-loop
+same-length c =
+    let at-loop = c .before in
+    at-loop .loop .inv .kept .long
+
+returns : tie.Need-returns Inv-loop μ-loop
+unfolding words
+returns c =
+    let at-loop = c .before in
+    filled-all (at-loop .loop .inv) (c .loop-test .left) refl
+
+pub decode-spec : {M : Type 1} → statement M
+decode-spec =
+    tie.close
+    (tie.spec
+    Inv-loop
+    μ-loop
+    loop-holds
+    mul-word
+    add-word
+    word-requires
+    put-requires
+    add-v
+    loop-less
+    loop-again
+    same-length
+    returns)

@@ -1,0 +1,3 @@
+pub mod TreeFile
+pub mod FileLaws
+pub mod Bytes
