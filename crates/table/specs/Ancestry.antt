@@ -235,7 +235,8 @@ module _ {P R : List ℕ} (tree : Tree P R) where
       go : (k : ℕ) → climb P k v ≡ a → under P a (parent P v) ≡ true
       go zero e = absurd (ne (sym (climb-zero P v) ∙ e))
       go (suc k) e =
-          steps-under P (tree .inside) a (parent P v) k (tree .inside v l) (climb-shift P k v ∙ sym (climb-suc P k v) ∙ e)
+          steps-under P (tree .inside) a (parent P v) k (tree .inside v l)
+          (climb-shift P k v ∙ sym (climb-suc P k v) ∙ e)
 
   ----------------------------------------------------------------------
   -- Lowest common ancestors
