@@ -3,9 +3,9 @@
 -- s gives each node the slope of its edge.
 --
 --   edgeSlope P R rule z     == that slope under the rule: the one whose place in the rule is z's post number
---   leftOf t, rightOf t      == (-b, a) and (b, -a), for t = (a, b): a right angle counter-clockwise, and clockwise, of t
---   sideways R s u v p q     == the direction from u to v where neither is the other's ancestor; p and q are the children of
---                               their lowest common ancestor towards u and towards v
+--   leftOf t, rightOf t      == (-b, a) and (b, -a), for t = (a, b): t turned left, and right, by a right angle
+--   sideways R s u v p q     == the direction from u to v where neither is an ancestor of the other; p and q are the
+--                               children of their lowest common ancestor towards u and towards v
 --   heading P R s u v i j    == the direction from u to v; i and j are the steps from u and from v to that ancestor
 --   directionFault ..        == refusals 1 to 7, 9 and 13
 --   direction ..             == the call

@@ -4,7 +4,9 @@ use mathlib.Core.Path.{_≡_, refl}
 use Prim.Native.Nat.{ℕ}
 use lib.IntN.{pos, negℤ}
 use Rattle.laws.specs.Search.{count, least}
-use Rattle.table.specs.Table.{climb, leads, isChild, children, isChildAt, childAt, under, rise, forest, postorder, place, subtree, order, postNumber, strayParent, badRank, adrift, large, tableFault}
+use Rattle.table.specs.Table.{climb, leads, isChild, children, isChildAt, childAt, under, rise}
+use Rattle.table.specs.Table.{forest, postorder, place, subtree, order, postNumber}
+use Rattle.table.specs.Table.{strayParent, badRank, adrift, large, tableFault}
 use Rattle.slopes.specs.declared.Rule.the-variants.{Steep}
 use Rattle.slopes.specs.Slopes.{slopeAt}
 use Rattle.direction.specs.declared.Heading.{Heading}

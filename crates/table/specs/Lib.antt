@@ -3,3 +3,4 @@ pub mod TableLaws
 pub mod Numbering
 pub mod Ancestry
 pub mod Paths
+pub mod PathLaws
