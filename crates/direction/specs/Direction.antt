@@ -9,12 +9,12 @@
 --   heading P R s u v i j    == the direction from u to v; i and j are the steps from u and from v to that ancestor
 --   directionFault ..        == refusals 1 to 7, 9 and 13
 --   direction ..             == the call
-use mathlib.Core.Bool.{Bool, true, false, cond, _||_}
+use mathlib.Core.Bool.{true, cond, _||_}
 use mathlib.Core.List.{List}
 use mathlib.Core.Option.{Option, none, some}
 use Prim.Native.Nat.{ℕ, zero, suc}
 use lib.Dec.{ltb, leb, eqb}
-use lib.IntN.{ℤ, pos, negℤ}
+use lib.IntN.{pos, negℤ}
 use lib.ListN.{length}
 use Rattle.laws.specs.Search.{Refusal, refuse, _orElse_}
 use Rattle.table.specs.declared.Limits.{Limits}

@@ -9,9 +9,8 @@
 --   Rising s n         == the slopes s 1, .., s (n - 1) have parts of at least 1, and each is steeper than those before
 --   Stands P t part c  == in the coordinate c, each node but the root lies t times its part beyond its parent
 --   Drawn P s t x y    == x and y place each node but the root t times, and at least once, its slope from its parent
-use mathlib.Core.Bool.{Bool, true, false, cond}
 use mathlib.Core.List.{List}
-use mathlib.Core.Path.{_≡_, refl, sym, ap, subst, _∙_}
+use mathlib.Core.Path.{_≡_, refl, ap, subst, _∙_}
 use Prim.Native.Nat.{ℕ, zero, suc, _+_, _-_, _*_, _≤_, _<_}
 use native.Mathlib.Nat.{mul-lt-mul-of-pos-left, mul-pos}
 use native.Mathlib.Omega.{arith}
@@ -30,9 +29,8 @@ use Rattle.table.specs.Paths.{Rises, PathRises}
 use Rattle.table.specs.PathLaws.{rises-by, path-back}
 use Rattle.slopes.specs.declared.Slope.{Slope}
 use Rattle.slopes.specs.Slopes.{_⊕_}
-use Rattle.direction.specs.declared.Heading.{Heading}
 use Rattle.direction.specs.declared.Heading.the-variants.{Along}
-use Rattle.direction.specs.Direction.{leftOf, rightOf, sideways, heading}
+use Rattle.direction.specs.Direction.{sideways, heading}
 
 abbrev pub Flatter : Slope → Slope → Type 0
 Flatter s t = s .up * t .across < s .across * t .up

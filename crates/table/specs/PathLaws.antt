@@ -2,17 +2,17 @@
 --
 --   height x y d e z   == how far along (d, e) node z lies. An edge rises where its end is higher than its start
 use mathlib.Core.List.{List, [], _∷_}
-use mathlib.Core.Path.{_≡_, sym}
+use mathlib.Core.Path.{_≡_, sym, ap, _∙_}
 use Prim.Native.Nat.{ℕ, suc, _+_, _*_, _<_}
 use native.Mathlib.Omega.{arith}
-use lib.IntN.{ℤ, pos, negℤ, _+ℤ_, _-ℤ_, _*ℤ_}
+use lib.IntN.{ℤ, pos, negℤ, _+ℤ_, _-ℤ_, _*ℤ_, +ℤ-idr, zero-*ℤ}
 use lib.ListN.{getD}
 use lib.Signed.{_<ℤ_}
 use Rattle.laws.specs.Differences.{IsDiff, recast, diff-pos, diff-neg, diff-add, diff-mul, diff-lt}
 use Rattle.laws.specs.Signs.{<-to}
-use Rattle.laws.specs.Solver.{Expr, v, _⊕_, _⊖_, _⊗_, neg, solve}
-use Rattle.table.specs.Table.{climb, rise}
-use Rattle.table.specs.Paths.{step, Rises, PathRises, along}
+use Rattle.laws.specs.Solver.{v, _⊕_, _⊖_, _⊗_, neg, solve}
+use Rattle.table.specs.Table.{climb}
+use Rattle.table.specs.Paths.{step, Rises, PathRises, along, SharePoint, CommonEnd}
 
 ------------------------------------------------------------------------
 -- Rising, by natural numbers
@@ -78,3 +78,32 @@ along-height x y d e m i a b =
     solve (d ∷ e ∷ pos (getD x a 0) ∷ pos (getD x b 0) ∷ pos (getD y a 0) ∷ pos (getD y b 0) ∷ pos m ∷ pos i ∷ [])
     (v 0 ⊗ (v 6 ⊗ v 2 ⊕ v 7 ⊗ (v 3 ⊖ v 2)) ⊕ v 1 ⊗ (v 6 ⊗ v 4 ⊕ v 7 ⊗ (v 5 ⊖ v 4)))
     (v 6 ⊗ (v 0 ⊗ v 2 ⊕ v 1 ⊗ v 4) ⊕ v 7 ⊗ ((v 0 ⊗ v 3 ⊕ v 1 ⊗ v 5) ⊖ (v 0 ⊗ v 2 ⊕ v 1 ⊗ v 4))) tt
+
+-- at i = 0 it is the start
+pub along-start : (c : List ℕ) (m i a b : ℕ) → i ≡ 0 → along c m i a b ≡ pos (m * getD c a 0)
+along-start c m i a b e =
+    ap (λ (k : ℕ). pos m *ℤ pos (getD c a 0) +ℤ pos k *ℤ step c a b) e
+    ∙ ap (λ (z : ℤ). pos m *ℤ pos (getD c a 0) +ℤ z) (zero-*ℤ (step c a b))
+    ∙ +ℤ-idr (pos (m * getD c a 0))
+
+------------------------------------------------------------------------
+-- Shared points, the edges taken in the other order
+
+pub share-back : {x y : List ℕ} {a b c d m i j : ℕ} → SharePoint x y a b c d m i j → SharePoint x y c d a b m j i
+share-back s = record {
+  whole = s .whole;
+  i-in = s .j-in;
+  j-in = s .i-in;
+  same-x = sym (s .same-x);
+  same-y = sym (s .same-y);
+}
+
+pub end-back : {x y : List ℕ} {a b c d m i j : ℕ} → SharePoint x y a b c d m i j → CommonEnd x y c d a b m j
+    → CommonEnd x y a b c d m i
+end-back s r = record {
+  node = r .node;
+  end-of-first = r .end-of-second;
+  end-of-second = r .end-of-first;
+  at-x = s .same-x ∙ r .at-x;
+  at-y = s .same-y ∙ r .at-y;
+}
