@@ -6,3 +6,4 @@ pub mod Numbering
 pub mod Ancestry
 pub mod Paths
 pub mod PathLaws
+pub mod Subtrees

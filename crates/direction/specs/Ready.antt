@@ -1,0 +1,25 @@
+-- What the inner functions of the direction call require.
+--
+--   Ready P R W     == an accepted table with its post numbers in the work list W
+--   Pair P u v      == u and v are nodes
+--   Small s         == the parts of the slope s are below the largest number of nodes
+use mathlib.Core.List.{List}
+use Prim.Native.Nat.{ℕ, _≤_, _<_}
+use lib.ListN.{length}
+use Rattle.table.specs.Table.{large}
+use Rattle.table.specs.TableLaws.{Tree}
+use Rattle.table.specs.Numbering.{Numbered}
+use Rattle.slopes.specs.declared.Slope.{Slope}
+
+pub record Ready (P R W : List ℕ) : Type 0 where
+  pub tree : Tree P R
+  pub numbered : Numbered P R W
+  pub few : length P ≤ large .nodes
+
+pub record Pair (P : List ℕ) (u v : ℕ) : Type 0 where
+  pub first : u < length P
+  pub second : v < length P
+
+pub record Small (s : Slope) : Type 0 where
+  pub across : s .across < large .nodes
+  pub up : s .up < large .nodes
