@@ -1,9 +1,11 @@
 pub mod Table
-pub mod Children
-pub mod TableLaws
-pub mod Postorder
-pub mod Numbering
-pub mod Ancestry
 pub mod Paths
 pub mod PathLaws
+pub mod Children
+pub mod TableLaws
+pub mod Ancestry
+pub mod Acceptance
+pub mod Postorder
+pub mod Numbering
 pub mod Subtrees
+pub mod Work

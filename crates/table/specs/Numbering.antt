@@ -16,7 +16,7 @@ use Rattle.laws.specs.Tests.{by-lt}
 use Rattle.table.specs.Children.{childAt-only, ChildAt}
 use Rattle.table.specs.Postorder.{size, ahead, Block, start, child-at, block-of, order-length, root-size, size-step, start-root, start-child, number-is, number-le, first-is, node-at, at-place, place-of-number}
 use Rattle.table.specs.Table.{parent, rank, climb, children, childAt, forest, postorder, subtree, order, postNumber, firstNumber}
-use Rattle.table.specs.TableLaws.{Tree, tree-ranked, climb-shift}
+use Rattle.table.specs.TableLaws.{Tree, tree-ranked}
 
 pub record Numbering (P R : List ℕ) (number : ℕ → ℕ) : Type 0 where
   pub from-1 : (v : ℕ) → v < length P → 1 ≤ number v

@@ -17,9 +17,10 @@ use lib.Seq.{getD-at}
 use borrow.Author.Tests.{lt-ltb, eq-eqb, ne-eqb}
 use Rattle.laws.specs.Sums.{sum, sum-more, sum-cong, sum-plus, sum-term, sum-ones, weigh, weightedSum, weighed, weigh-one, split-first, injective-onto}
 use Rattle.laws.specs.Tests.{by-eq, by-lt, false-of}
+use Rattle.table.specs.Ancestry.{depth, depth-below-n, depth-parent}
 use Rattle.table.specs.Children.{Child, childAt-of, childAt-test, ChildAt, childAt-is, childAt-only, one-parent, one-rank-a-child}
 use Rattle.table.specs.Table.{parent, rank, isChild, children, isChildAt, childAt, forest, postorder, subtree, order, place, postNumber, firstNumber}
-use Rattle.table.specs.TableLaws.{Tree, tree-nodes, tree-ranked, depth, depth-le, depth-parent}
+use Rattle.table.specs.TableLaws.{Tree, tree-nodes, tree-ranked}
 
 ------------------------------------------------------------------------
 -- Lists of lists
@@ -97,11 +98,11 @@ module _ {P R : List ℕ} (t : Tree P R) where
   child-deeper : (v r : ℕ) → r < children P v → depth P v < depth P (childAt P R v r)
   child-deeper v r l =
       let k = child-at v r l in
-      subst (λ (x : ℕ). depth P x < depth P (childAt P R v r)) (k .up) (depth-parent t _ (k .above) (k .inside))
+      omega (arith, ap (depth P) (k .up), depth-parent t _ (k .above) (k .inside))
 
   fuel-enough : (f v : ℕ) → v < length P → length P < f + depth P v → postorder P R f v ≡ postorder P R (suc f) v
   unfolding postorder
-  fuel-enough zero v l h = absurd (omega (arith, depth-le t v))
+  fuel-enough zero v l h = absurd (omega (arith, depth-below-n t v l))
   fuel-enough (suc f) v l h =
       ap (λ (z : List ℕ). z ++ (v ∷ []))
       (forest-cong (postorder P R f) (postorder P R (suc f)) (childAt P R v) (children P v)

@@ -1,20 +1,17 @@
--- Accepted tables.
+-- Accepted tables, and the tests of refusals 5, 6 and 7.
 --
 --   Tree P R      == what refusals 1 and 3 to 7 leave: the parents lead to node 0, and the ranks of siblings are 0, 1, ..
---   depth P v     == the number of steps from v to node 0
-use mathlib.Core.Bool.{true}
+use mathlib.Core.Bool.{true, false, and-false}
 use mathlib.Core.List.{List}
-use mathlib.Core.Path.{_≡_, refl, sym, ap, _∙_}
-use Prim.Native.Nat.{ℕ, zero, suc, _-_, _≤_, _<_}
-use native.Mathlib.Omega.{arith}
-use lib.Dec.{eqb}
+use mathlib.Core.Path.{_≡_, refl}
+use Prim.Native.Nat.{ℕ, _≤_, _<_}
+use lib.Dec.{ltb, leb}
 use lib.ListN.{length, getD}
-use borrow.Author.Tests.{eqb-true, eq-eqb}
-use Rattle.laws.specs.Search.{least}
-use Rattle.laws.specs.SearchLaws.{least-le, least-found, least-passes}
-use Rattle.laws.specs.Tests.{by-lt}
+use borrow.Author.Tests.{lt-ltb, le-ltb, le-leb, lt-leb, eq-eqb, ne-eqb}
+use Rattle.laws.specs.Search.{count}
+use Rattle.laws.specs.Tests.{both-is, either-first, either-second, neither-is}
 use Rattle.table.specs.Children.{Nodes, Ranked}
-use Rattle.table.specs.Table.{parent, rank, climb, children}
+use Rattle.table.specs.Table.{parent, rank, climb, leads, children, isChildAt, strayParent, badRank, adrift}
 
 pub record Tree (P R : List ℕ) : Type 0 where
   pub some : 0 < length P
@@ -32,36 +29,47 @@ pub tree-ranked : {P R : List ℕ} → Tree P R → Ranked P R
 tree-ranked t = record { below = t .rank-low; apart = t .ranks-differ }
 
 ------------------------------------------------------------------------
--- Depth
+-- The tests of refusals 5, 6 and 7
 
-pub climb-shift : (P : List ℕ) (k v : ℕ) → climb P k (parent P v) ≡ climb P (suc k) v
-unfolding climb
-climb-shift P zero v = refl
-climb-shift P (suc k) v = ap (parent P) (climb-shift P k v)
+pub stray-root : (P : List ℕ) → strayParent P 0 ≡ false
+unfolding strayParent
+stray-root P = refl
 
-unfoldable pub depth : List ℕ → ℕ → ℕ
-depth P v = least (λ k. eqb (climb P k v) 0) (length P)
+pub stray-yes : (P : List ℕ) (v : ℕ) → 0 < v → length P ≤ parent P v → strayParent P v ≡ true
+unfolding strayParent
+stray-yes P v a h = both-is (lt-ltb 0 v a) (le-leb _ _ h)
 
-module _ {P R : List ℕ} (t : Tree P R) where
-  pub depth-le : (v : ℕ) → depth P v ≤ length P
-  unfolding depth
-  depth-le v = least-le (λ k. eqb (climb P k v) 0) (length P)
+pub stray-no : (P : List ℕ) (v : ℕ) → parent P v < length P → strayParent P v ≡ false
+unfolding strayParent
+stray-no P v h = rw (lt-leb (length P) (parent P v) h) (and-false (ltb 0 v))
 
-  pub depth-home : (v : ℕ) → v < length P → climb P (depth P v) v ≡ 0
-  unfolding depth
-  depth-home v l =
-      by-lt (depth P v) (length P) (λ b. eqb-true _ _ (least-passes (λ k. eqb (climb P k v) 0) (length P) b))
-      (λ b. ap (λ (k : ℕ). climb P k v) (omega (arith, depth-le v)) ∙ t .leads-home v l)
+pub bad-root : (P R : List ℕ) → badRank P R 0 ≡ false
+unfolding badRank
+bad-root P R = refl
 
-  pub depth-parent : (v : ℕ) → 0 < v → v < length P → depth P (parent P v) < depth P v
-  unfolding depth climb
-  depth-parent v a l = go (depth P v) refl
-    where
-      go : (d : ℕ) → depth P v ≡ d → depth P (parent P v) < depth P v
-      go zero e = absurd (omega (arith, ap (λ (k : ℕ). climb P k v) (sym e) ∙ depth-home v l))
-      go (suc d) e =
-          let home : climb P d (parent P v) ≡ 0 =
-          climb-shift P d v ∙ ap (λ (k : ℕ). climb P k v) (sym e) ∙ depth-home v l in
-          let low =
-          least-found (λ k. eqb (climb P k (parent P v)) 0) (length P) d (omega (arith, depth-le v)) (eq-eqb _ _ home) in
-          omega (arith, low .0)
+pub bad-high : (P R : List ℕ) (v : ℕ) → 0 < v → children P (parent P v) ≤ rank R v → badRank P R v ≡ true
+unfolding badRank
+bad-high P R v a h = both-is (lt-ltb 0 v a) (either-first _ _ (le-leb _ _ h))
+
+pub bad-shared : (P R : List ℕ) (v : ℕ) → 0 < v → 1 < count (isChildAt P R (parent P v) (rank R v)) (length P)
+    → badRank P R v ≡ true
+unfolding badRank
+bad-shared P R v a h =
+    both-is (lt-ltb 0 v a) (either-second (leb (children P (parent P v)) (rank R v)) _ (lt-ltb _ _ h))
+
+pub bad-no : (P R : List ℕ) (v : ℕ) → rank R v < children P (parent P v)
+    → count (isChildAt P R (parent P v) (rank R v)) (length P) ≤ 1 → badRank P R v ≡ false
+unfolding badRank
+bad-no P R v h o = rw (neither-is (lt-leb _ _ h) (le-ltb 1 _ o)) (and-false (ltb 0 v))
+
+pub adrift-root : (P : List ℕ) → adrift P 0 ≡ false
+unfolding adrift
+adrift-root P = refl
+
+pub adrift-yes : (P : List ℕ) (v : ℕ) → 0 < v → (climb P (length P) v ≡ 0 → ⊥) → adrift P v ≡ true
+unfolding adrift leads
+adrift-yes P v a h = both-is (lt-ltb 0 v a) (rw (ne-eqb _ _ h) refl)
+
+pub adrift-no : (P : List ℕ) (v : ℕ) → climb P (length P) v ≡ 0 → adrift P v ≡ false
+unfolding adrift leads
+adrift-no P v h = rw (eq-eqb _ _ h) (and-false (ltb 0 v))
