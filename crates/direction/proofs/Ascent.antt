@@ -1,7 +1,7 @@
 -- The way from u up to the child, towards u, of the lowest common ancestor of u and v.
 --
 --   Ascending P u v z   == z is on that way
-use mathlib.Core.Bool.{Bool, true, false}
+use mathlib.Core.Bool.{true, false}
 use mathlib.Core.List.{List}
 use mathlib.Core.Path.{_≡_, sym, ap, subst, subst⁻¹, _∙_}
 use Prim.Native.Nat.{ℕ, suc, _-_, _<_}
@@ -9,43 +9,42 @@ use native.Mathlib.Omega.{arith}
 use lib.ListN.{length}
 use Rattle.laws.specs.Tests.{by-eq, differ}
 use Rattle.table.specs.Table.{parent, climb, under, rise}
-use Rattle.table.specs.TableLaws.{Tree}
 use Rattle.table.specs.Ancestry.{climb-zero, climb-inside, depth, depth-parent}
 use Rattle.table.specs.Ancestry.{rise-some, rise-way, rise-common, rise-least}
-use Rattle.direction.specs.Ready.{Ready, Pair}
+use Rattle.direction.specs.Ordered.{Ordered, Pair}
 
 pub record Ascending (P : List ℕ) (u v z : ℕ) : Type 0 where
   pub steps : ℕ
   pub at : climb P steps u ≡ z
   pub below : steps < rise P u v
 
-module _ {P R W : List ℕ} (ready : Ready P R W) {u v : ℕ} (pair : Pair P u v) where
+module _ {P R W : List ℕ} (ordered : Ordered P R W) {u v : ℕ} (pair : Pair P u v) where
   pub ascending-start : under P u v ≡ false → Ascending P u v u
   ascending-start f = record {
     steps = 0;
     at = climb-zero P u;
-    below = omega (arith, rise-some (ready .tree) u v (pair .first) (pair .second) f .1);
+    below = omega (arith, rise-some (ordered .tree) u v (pair .first) (pair .second) f .1);
   }
 
   module _ {z : ℕ} (a : Ascending P u v z) where
     pub ascending-inside : z < length P
     ascending-inside =
-        subst (λ (w : ℕ). w < length P) (a .at) (climb-inside P (ready .tree .inside) (a .steps) u (pair .first))
+        subst (λ (w : ℕ). w < length P) (a .at) (climb-inside P (ordered .tree .inside) (a .steps) u (pair .first))
 
     -- p is z's parent
     module _ {p : ℕ} (up : p ≡ parent P z) where
       pub ascending-pair : Pair P p v
       ascending-pair = record {
-        first = subst⁻¹ (λ (w : ℕ). w < length P) up (ready .tree .inside z ascending-inside);
+        first = subst⁻¹ (λ (w : ℕ). w < length P) up (ordered .tree .inside z ascending-inside);
         second = pair .second;
       }
 
       -- each step leads nearer to the root
       pub ascending-less : depth P p < depth P z
       ascending-less =
-          let way = rise-way (ready .tree) u v (a .steps) (pair .second) (a .below) in
+          let way = rise-way (ordered .tree) u v (a .steps) (pair .second) (a .below) in
           let node = subst (λ (w : ℕ). 0 < w) (a .at) way in
-          omega (arith, depth-parent (ready .tree) z node ascending-inside, ap (depth P) up)
+          omega (arith, depth-parent (ordered .tree) z node ascending-inside, ap (depth P) up)
 
       next : climb P (suc (a .steps)) u ≡ p
       unfolding climb
@@ -57,13 +56,13 @@ module _ {P R W : List ℕ} (ready : Ready P R W) {u v : ℕ} (pair : Pair P u v
         steps = suc (a .steps);
         at = next;
         below = by-eq (suc (a .steps)) (rise P u v)
-            (λ e. absurd (differ (rise-common (ready .tree) u v (pair .first) (pair .second))
+            (λ e. absurd (differ (rise-common (ordered .tree) u v (pair .first) (pair .second))
             (subst⁻¹ (λ (w : ℕ). under P w v ≡ false) (ap (λ (k : ℕ). climb P k u) (sym e) ∙ next) f)))
             (λ ne. let b = a .below in omega arith);
       }
 
       pub ascending-end : under P p v ≡ true → z ≡ climb P (rise P u v - 1) u
       ascending-end t =
-          let low = rise-least (ready .tree) u v (suc (a .steps)) (subst⁻¹ (λ (w : ℕ). under P w v ≡ true) next t) in
+          let low = rise-least (ordered .tree) u v (suc (a .steps)) (subst⁻¹ (λ (w : ℕ). under P w v ≡ true) next t) in
           let b = a .below in
           sym (a .at) ∙ ap (λ (k : ℕ). climb P k u) (omega arith)

@@ -1,2 +1,4 @@
 pub mod Ascent
 pub mod Signs32
+pub mod EdgeSlopes
+pub mod Headings

@@ -11,7 +11,7 @@ use Rattle.slopes.specs.declared.Slope.{Slope}
 use Rattle.slopes.specs.Slopes.{_⊕_}
 use Rattle.direction.specs.declared.Heading.the-variants.{Along}
 use Rattle.direction.specs.Direction.{leftOf, rightOf}
-use Rattle.direction.specs.Ready.{Small}
+use Rattle.direction.specs.Ordered.{Small}
 
 pub fits-plus : (n : ℕ) → n < 2 ^ 31 → SFits w32 (pos n)
 fits-plus n l = record { sfits = l }

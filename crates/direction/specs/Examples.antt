@@ -6,7 +6,7 @@ use lib.IntN.{pos, negℤ}
 use Rattle.laws.specs.Search.{count, least}
 use Rattle.table.specs.Table.{climb, leads, isChild, children, isChildAt, childAt, under, rise}
 use Rattle.table.specs.Table.{forest, postorder, place, subtree, order, postNumber}
-use Rattle.table.specs.Table.{strayParent, badRank, adrift, large, tableFault}
+use Rattle.table.specs.Table.{strayParent, badRank, adrift, large, shapeFault, treeFault, tableFault}
 use Rattle.slopes.specs.declared.Rule.the-variants.{Steep}
 use Rattle.slopes.specs.Slopes.{slopeAt}
 use Rattle.direction.specs.declared.Heading.{Heading}
@@ -27,7 +27,7 @@ record Examples : Type 0 where
   no-node : five 5 5 ≡ Refused 9 0
 
 examples : Examples
-unfolding five count least climb leads isChild children isChildAt childAt under forest postorder place subtree order postNumber strayParent badRank adrift tableFault slopeAt rise sideways heading directionFault reply direction
+unfolding five count least climb leads isChild children isChildAt childAt under forest postorder place subtree order postNumber strayParent badRank adrift shapeFault treeFault tableFault slopeAt rise sideways heading directionFault reply direction
 examples = record {
   three-two = refl;
   two-three = refl;

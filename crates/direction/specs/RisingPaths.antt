@@ -5,7 +5,6 @@
 -- most p's, and below v's; each edge from q down to v one of at least v's, and above p's. So the sum of the slopes of p
 -- and v lies strictly between the slopes on u's side and those on v's side, and both sides rise at a right angle to it.
 --
---   Flatter s t        == the slope s is less steep than t
 --   Rising s n         == the slopes s 1, .., s (n - 1) have parts of at least 1, and each is steeper than those before
 --   Stands P t part c  == in the coordinate c, each node but the root lies t times its part beyond its parent
 --   Drawn P s t x y    == x and y place each node but the root t times, and at least once, its slope from its parent
@@ -29,16 +28,14 @@ use Rattle.table.specs.Paths.{Rises, PathRises}
 use Rattle.table.specs.PathLaws.{rises-by, path-back}
 use Rattle.slopes.specs.declared.Slope.{Slope}
 use Rattle.slopes.specs.Slopes.{_⊕_}
+use Rattle.slopes.specs.LevelLaws.{Below}
 use Rattle.direction.specs.declared.Heading.the-variants.{Along}
 use Rattle.direction.specs.Direction.{sideways, heading}
-
-abbrev pub Flatter : Slope → Slope → Type 0
-Flatter s t = s .up * t .across < s .across * t .up
 
 pub record Rising (s : ℕ → Slope) (n : ℕ) : Type 0 where
   pub across-from-1 : (j : ℕ) → 1 ≤ j → j < n → 1 ≤ s j .across
   pub up-from-1 : (j : ℕ) → 1 ≤ j → j < n → 1 ≤ s j .up
-  pub steeper : (i j : ℕ) → 1 ≤ i → i < j → j < n → Flatter (s i) (s j)
+  pub steeper : (i j : ℕ) → 1 ≤ i → i < j → j < n → Below (s i) (s j)
 
 abbrev pub Stands : List ℕ → (ℕ → ℕ) → (ℕ → ℕ) → List ℕ → Type 0
 Stands P t part c = (v : ℕ) → 0 < v → v < length P → getD c v 0 ≡ getD c (parent P v) 0 + t v * part v
@@ -54,7 +51,7 @@ pub record Drawn (P : List ℕ) (s : ℕ → Slope) (t : ℕ → ℕ) (x y : Lis
 module _ {P : List ℕ} {s : ℕ → Slope} {t : ℕ → ℕ} {x y : List ℕ} (drawn : Drawn P s t x y) (z : ℕ) (node : 0 < z)
     (inside : z < length P) where
   -- walked up, an edge flatter than m rises along m turned left
-  flatter-rises : (m : Slope) → Flatter (s z) m → Rises x y (negℤ (pos (m .up))) (pos (m .across)) z (parent P z)
+  flatter-rises : (m : Slope) → Below (s z) m → Rises x y (negℤ (pos (m .up))) (pos (m .across)) z (parent P z)
   flatter-rises m h =
       rises-by x y (negℤ (pos (m .up))) (pos (m .across)) 0 (m .up) (m .across) 0 z (parent P z)
       (diff-neg (pos (m .up)) (m .up) 0 (diff-pos (m .up))) (diff-pos (m .across))
@@ -62,7 +59,7 @@ module _ {P : List ℕ} {s : ℕ → Slope} {t : ℕ → ℕ} {x y : List ℕ} (
       rw (drawn .at-x z node inside, drawn .at-y z node inside) (omega arith))
 
   -- walked down, an edge steeper than m does
-  steeper-rises : (m : Slope) → Flatter m (s z) → Rises x y (negℤ (pos (m .up))) (pos (m .across)) (parent P z) z
+  steeper-rises : (m : Slope) → Below m (s z) → Rises x y (negℤ (pos (m .up))) (pos (m .across)) (parent P z) z
   steeper-rises m h =
       rises-by x y (negℤ (pos (m .up))) (pos (m .across)) 0 (m .up) (m .across) 0 (parent P z) z
       (diff-neg (pos (m .up)) (m .up) 0 (diff-pos (m .up))) (diff-pos (m .across))
@@ -105,7 +102,7 @@ module _ {P R : List ℕ} (tree : Tree P R) {number : ℕ → ℕ} (numbering : 
 
   module _ {s : ℕ → Slope} (rising : Rising s (length P)) where
     flatter-before : (a b : ℕ) → a < length P → 0 < b → b < length P → number a < number b
-        → Flatter (s (number a)) (s (number b))
+        → Below (s (number a)) (s (number b))
     flatter-before a b la pb lb h =
         rising .steeper (number a) (number b) (numbering .from-1 a la) h (number-below-n b pb lb)
 
@@ -150,7 +147,7 @@ module _ {P R : List ℕ} (tree : Tree P R) {number : ℕ → ℕ} (numbering : 
             numbering .sibling-later p q a b k l (siblings .p-node) (siblings .p-inside) (siblings .q-node)
             (siblings .q-inside) (siblings .one-parent) less la lb up-a up-b
 
-        u-side : (k : ℕ) → k ≤ i → Flatter (s (number (climb P k u))) between
+        u-side : (k : ℕ) → k ≤ i → Below (s (number (climb P k u))) between
         u-side k l =
             let inside = climb-inside P (tree .inside) k u lu in
             let on : climb P (i - k) (climb P k u) ≡ p = climb-onward P i k u l ∙ to-p in
@@ -162,7 +159,7 @@ module _ {P R : List ℕ} (tree : Tree P R) {number : ℕ → ℕ} (numbering : 
               flatter-before (climb P k u) v inside v-node lv (before (climb P k u) v (i - k) j inside lv on to-q),
             )
 
-        v-side : (k : ℕ) → k ≤ j → Flatter between (s (number (climb P k v)))
+        v-side : (k : ℕ) → k ≤ j → Below between (s (number (climb P k v)))
         v-side k l =
             let node = rise-way tree v u k lu (omega arith) in
             let inside = climb-inside P (tree .inside) k v lv in

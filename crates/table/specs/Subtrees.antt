@@ -8,7 +8,7 @@ use lib.Dec.{leb}
 use lib.ListN.{length, getD}
 use borrow.Author.Tests.{leb-true, le-leb, lt-leb}
 use Rattle.laws.specs.Tests.{same-test, both, both-is}
-use Rattle.table.specs.Table.{climb, under, postNumber, firstNumber}
+use Rattle.table.specs.Table.{under, postNumber, firstNumber}
 use Rattle.table.specs.TableLaws.{Tree}
 use Rattle.table.specs.Ancestry.{under-steps, steps-under}
 use Rattle.table.specs.Postorder.{start, first-is}

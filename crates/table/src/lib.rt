@@ -244,7 +244,13 @@ fn structure(parent: &[u32], rank: &[u32], work: &mut [u32]) -> Validity
 }
 // Refusals 1 to 7 at the limits, where `long` says that the lists lent besides are as long as the parent list. Only the
 // first 2n numbers of the work list change, and none on a refusal before 4.
-pub fn validate(limits: Limits, parent: &[u32], rank: &[u32], long: bool, work: &mut [u32]) -> Validity
+pub fn validate(
+    limits: Limits,
+    parent: &[u32],
+    rank: &[u32],
+    long: bool,
+    work: &mut [u32],
+) -> Validity
     ensures { λ r. ⌜ Validated limits (now (parent .entry)) (now (rank .entry)) long (now (work .entry)) (now (work .exit)) r ⌝ }
 {
     let n = parent.len();

@@ -49,8 +49,7 @@ put-requires c κs =
     let at-get = at-get2 .before .before in
     let at-loop-test = at-get .before .before in
     let at-loop = at-loop-test .before in
-    let at-entry = at-loop .before .before .before in
-    (
+    let at-entry = at-loop .before .before .before in (
       accumulating-in (at-entry .pre .0) (at-loop .loop .inv) (at-loop-test .loop-test .taken),
       omega (arith, accumulating-few (at-entry .pre .0) (at-loop .loop .inv) (at-loop-test .loop-test .taken) (at-get .get .ensures .0) (at-get2 .get2 .ensures .0), at-entry .pre .0 .few),
     )

@@ -43,8 +43,7 @@ returns c =
     let at-get3 = at-get4 .before .before in
     let at-get2 = at-get3 .before .before in
     let at-get = at-get2 .before in
-    let at-entry = at-get .before .before .before .before in
-    (
+    let at-entry = at-get .before .before .before .before in (
       seating-none (at-entry .pre .0) (at-entry .pre .1) (turn (at-get .get .ensures .0) (at-get2 .get2 .ensures .0) (at-get3 .get3 .ensures .0) (at-get4 .get4 .ensures .0)) (c .if1 .taken),
       only-refl _ _ _,
     )
@@ -90,8 +89,7 @@ put-requires c κs =
     let at-get3 = at-get4 .before .before in
     let at-get2 = at-get3 .before .before in
     let at-get = at-get2 .before in
-    let at-entry = at-get .before .before .before .before in
-    (
+    let at-entry = at-get .before .before .before .before in (
       seat-room {R = at-entry .args .rank .now} (at-entry .pre .0 .scratch) (at-entry .pre .0 .started) (at-entry .pre .1) (turn (at-get .get .ensures .0) (at-get2 .get2 .ensures .0) (at-get3 .get3 .ensures .0) (at-get4 .get4 .ensures .0)) (at-if1 .if1 .left),
       omega (
         arith,

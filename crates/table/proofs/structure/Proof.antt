@@ -35,8 +35,7 @@ occupy-requires c κs =
     let at-starts = c .before .before .before in
     let at-if1 = at-starts .before .before in
     let at-stray-parent = at-if1 .before in
-    let at-entry = at-stray-parent .before .before .before .before in
-    (
+    let at-entry = at-stray-parent .before .before .before .before in (
       (scratch-kept (scratch-of (at-entry .pre) (at-stray-parent .stray-parent .ensures) (at-if1 .if1 .left)) (at-starts .starts .ensures .2 .long), at-entry .pre .ranks),
       (at-starts .starts .ensures .0, at-starts .starts .ensures .1),
     )
@@ -47,8 +46,7 @@ bad-rank-requires c κs =
     let at-starts = at-occupy .before .before .before .before in
     let at-if1 = at-starts .before .before in
     let at-stray-parent = at-if1 .before in
-    let at-entry = at-stray-parent .before .before .before .before in
-    (
+    let at-entry = at-stray-parent .before .before .before .before in (
       (
         scratch-kept (scratch-of (at-entry .pre) (at-stray-parent .stray-parent .ensures) (at-if1 .if1 .left)) (at-occupy .occupy .ensures .1 .long ∙ at-starts .starts .ensures .2 .long),
         at-entry .pre .ranks,

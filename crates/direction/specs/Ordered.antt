@@ -1,7 +1,8 @@
 -- What the inner functions of the direction call require.
 --
---   Ready P R W     == an accepted table with its post numbers in the work list W
+--   Ordered P R W     == an accepted table with its post numbers in the work list W
 --   Pair P u v      == u and v are nodes
+--   Edges P u v     == and neither is the root: each has an edge
 --   Small s         == the parts of the slope s are below the largest number of nodes
 use mathlib.Core.List.{List}
 use Prim.Native.Nat.{ℕ, _≤_, _<_}
@@ -11,7 +12,7 @@ use Rattle.table.specs.TableLaws.{Tree}
 use Rattle.table.specs.Numbering.{Numbered}
 use Rattle.slopes.specs.declared.Slope.{Slope}
 
-pub record Ready (P R W : List ℕ) : Type 0 where
+pub record Ordered (P R W : List ℕ) : Type 0 where
   pub tree : Tree P R
   pub numbered : Numbered P R W
   pub few : length P ≤ large .nodes
@@ -19,6 +20,11 @@ pub record Ready (P R W : List ℕ) : Type 0 where
 pub record Pair (P : List ℕ) (u v : ℕ) : Type 0 where
   pub first : u < length P
   pub second : v < length P
+
+pub record Edges (P : List ℕ) (u v : ℕ) : Type 0 where
+  pub pair : Pair P u v
+  pub first : 0 < u
+  pub second : 0 < v
 
 pub record Small (s : Slope) : Type 0 where
   pub across : s .across < large .nodes
