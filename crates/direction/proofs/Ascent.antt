@@ -11,38 +11,41 @@ use Rattle.laws.specs.Tests.{by-eq, differ}
 use Rattle.table.specs.Table.{parent, climb, under, rise}
 use Rattle.table.specs.Ancestry.{climb-zero, climb-inside, depth, depth-parent}
 use Rattle.table.specs.Ancestry.{rise-some, rise-way, rise-common, rise-least}
-use Rattle.direction.specs.Ordered.{Ordered, Pair}
+use Rattle.direction.specs.Ordered.{Ordered, Pair, Apart}
 
 pub record Ascending (P : List ℕ) (u v z : ℕ) : Type 0 where
   pub steps : ℕ
   pub at : climb P steps u ≡ z
   pub below : steps < rise P u v
 
-module _ {P R W : List ℕ} (ordered : Ordered P R W) {u v : ℕ} (pair : Pair P u v) where
-  pub ascending-start : under P u v ≡ false → Ascending P u v u
-  ascending-start f = record {
+module _ {P R W : List ℕ} (ordered : Ordered P R W) {u v : ℕ} (apart : Apart P u v) where
+  pub ascending-start : Ascending P u v u
+  ascending-start = record {
     steps = 0;
     at = climb-zero P u;
-    below = omega (arith, rise-some (ordered .tree) u v (pair .first) (pair .second) f .1);
+    below =
+        let some = rise-some (ordered .tree) u v (apart .pair .first) (apart .pair .second) (apart .not-over) in
+        omega (arith, some .1);
   }
 
   module _ {z : ℕ} (a : Ascending P u v z) where
     pub ascending-inside : z < length P
     ascending-inside =
-        subst (λ (w : ℕ). w < length P) (a .at) (climb-inside P (ordered .tree .inside) (a .steps) u (pair .first))
+        subst (λ (w : ℕ). w < length P) (a .at)
+        (climb-inside P (ordered .tree .inside) (a .steps) u (apart .pair .first))
 
     -- p is z's parent
     module _ {p : ℕ} (up : p ≡ parent P z) where
       pub ascending-pair : Pair P p v
       ascending-pair = record {
         first = subst⁻¹ (λ (w : ℕ). w < length P) up (ordered .tree .inside z ascending-inside);
-        second = pair .second;
+        second = apart .pair .second;
       }
 
       -- each step leads nearer to the root
       pub ascending-less : depth P p < depth P z
       ascending-less =
-          let way = rise-way (ordered .tree) u v (a .steps) (pair .second) (a .below) in
+          let way = rise-way (ordered .tree) u v (a .steps) (apart .pair .second) (a .below) in
           let node = subst (λ (w : ℕ). 0 < w) (a .at) way in
           omega (arith, depth-parent (ordered .tree) z node ascending-inside, ap (depth P) up)
 
@@ -56,7 +59,7 @@ module _ {P R W : List ℕ} (ordered : Ordered P R W) {u v : ℕ} (pair : Pair P
         steps = suc (a .steps);
         at = next;
         below = by-eq (suc (a .steps)) (rise P u v)
-            (λ e. absurd (differ (rise-common (ordered .tree) u v (pair .first) (pair .second))
+            (λ e. absurd (differ (rise-common (ordered .tree) u v (apart .pair .first) (apart .pair .second))
             (subst⁻¹ (λ (w : ℕ). under P w v ≡ false) (ap (λ (k : ℕ). climb P k u) (sym e) ∙ next) f)))
             (λ ne. let b = a .below in omega arith);
       }

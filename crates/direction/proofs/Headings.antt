@@ -16,6 +16,9 @@ use Rattle.direction.specs.declared.Heading.the-variants.{Along}
 use Rattle.direction.specs.Direction.{leftOf, rightOf, sideways, heading}
 use Rattle.direction.specs.Ordered.{Ordered, Pair, Edges}
 
+pub pair-back : {P : List ℕ} {u v : ℕ} → Pair P u v → Pair P v u
+pair-back pair = record { first = pair .second; second = pair .first }
+
 -- a and b are the ranks of p and q, m and n two slopes
 module _ (R : List ℕ) (s : ℕ → Slope) (u v p q : ℕ) {a b : ℕ} (at-p : a ≡ rank R p) (at-q : b ≡ rank R q)
     {m n : Slope} {r : Heading} where
@@ -43,7 +46,8 @@ module _ {P R W : List ℕ} (ordered : Ordered P R W) where
 
   -- two tests tell whether v is in u's subtree, and u in v's
   module _ {u v : ℕ} (pair : Pair P u v) {over : Bool} (over-is : over ≡ under P u v) where
-    pub heading-down : (s : ℕ → Slope) → over ≡ true → Along (pos 1) (pos 1) ≡ heading P R s u v (rise P u v) (rise P v u)
+    pub heading-down : (s : ℕ → Slope) → over ≡ true
+        → Along (pos 1) (pos 1) ≡ heading P R s u v (rise P u v) (rise P v u)
     unfolding heading
     heading-down s t = rw (rise-zero (ordered .tree) u v (pair .first) (pair .second) (sym over-is ∙ t)) refl
 
@@ -61,7 +65,7 @@ module _ {P R W : List ℕ} (ordered : Ordered P R W) where
         pub side-edges : Edges P u v × Edges P p q
         side-edges =
             let first = edge-up pair (sym over-is ∙ not-over) at-p in
-            let second = edge-up (record { first = pair .second; second = pair .first }) (sym below-is ∙ not-below) at-q in (
+            let second = edge-up (pair-back pair) (sym below-is ∙ not-below) at-q in (
               record { pair = pair; first = first .0; second = second .0 },
               record { pair = record { first = first .2; second = second .2 }; first = first .1; second = second .1 },
             )

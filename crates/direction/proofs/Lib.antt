@@ -2,3 +2,4 @@ pub mod Ascent
 pub mod Signs32
 pub mod EdgeSlopes
 pub mod Headings
+pub mod Replies

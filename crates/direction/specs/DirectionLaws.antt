@@ -26,7 +26,8 @@ use Rattle.slopes.specs.Slopes.{slopeAt}
 use Rattle.slopes.specs.SlopeLaws.{slope-positive, slope-increasing}
 use Rattle.direction.specs.declared.Heading.{Heading}
 use Rattle.direction.specs.declared.Heading.the-variants.{Along, Refused}
-use Rattle.direction.specs.Direction.{edgeSlope, sideways, heading, directionFault, reply, direction}
+use Rattle.direction.specs.Direction.{edgeSlope, sideways, heading, course}
+use Rattle.direction.specs.Direction.{pairFault, directionFault, reply, direction}
 use Rattle.direction.specs.RisingPaths.{Rising, Drawn, rising-paths}
 use Rattle.direction.specs.NoCrossing.{no-crossing}
 
@@ -40,10 +41,10 @@ rule-rises rule n = record {
 -- two different nodes are refused only where the table is
 pub direction-given : (L : Limits) (P R : List ℕ) (rule : Rule) (work u v : ℕ) → tableFault L P R true work ≡ none
     → u < length P → v < length P → u ≢ v
-    → direction L P R rule work u v ≡ heading P R (edgeSlope P R rule) u v (rise P u v) (rise P v u)
-unfolding direction directionFault reply
+    → direction L P R rule work u v ≡ course P R rule u v
+unfolding direction directionFault pairFault reply
 direction-given L P R rule work u v fine lu lv ne =
-    ap (λ f. reply f (heading P R (edgeSlope P R rule) u v (rise P u v) (rise P v u)))
+    ap (λ f. reply f (course P R rule u v))
     (orElse-second (tableFault L P R true work) _ fine
     ∙ orElse-second _ _ (refuse-no _ 9 0 (neither-is (lt-leb (length P) u lu) (lt-leb (length P) v lv)))
     ∙ refuse-no _ 13 0 (ne-eqb u v ne))

@@ -11,7 +11,7 @@ use Rattle.slopes.specs.declared.Rule.the-variants.{Steep}
 use Rattle.slopes.specs.Slopes.{slopeAt}
 use Rattle.direction.specs.declared.Heading.{Heading}
 use Rattle.direction.specs.declared.Heading.the-variants.{Along, Refused}
-use Rattle.direction.specs.Direction.{sideways, heading, directionFault, reply, direction}
+use Rattle.direction.specs.Direction.{sideways, heading, pairFault, directionFault, reply, direction}
 
 -- the five-node table
 unfoldable five : ℕ → ℕ → Heading
@@ -27,7 +27,7 @@ record Examples : Type 0 where
   no-node : five 5 5 ≡ Refused 9 0
 
 examples : Examples
-unfolding five count least climb leads isChild children isChildAt childAt under forest postorder place subtree order postNumber strayParent badRank adrift shapeFault treeFault tableFault slopeAt rise sideways heading directionFault reply direction
+unfolding five count least climb leads isChild children isChildAt childAt under forest postorder place subtree order postNumber strayParent badRank adrift shapeFault treeFault tableFault slopeAt rise sideways heading pairFault directionFault reply direction
 examples = record {
   three-two = refl;
   two-three = refl;

@@ -57,8 +57,11 @@ module _ {P R W : List ℕ} (w : Seated P R W) where
     ready = ready-kept (w .ready) o (omega (arith, w .ready .tree .some));
     slotted = record {
       at = λ v a l.
-          o .below _ (omega (arith, slot-below P (parent P v) (rank R v) (tree-nodes (w .ready .tree))
-          (w .ready .tree .inside v l) (w .ready .tree .rank-low v a l)))
+          o .below _ (omega (
+            arith,
+            slot-below P (parent P v) (rank R v) (tree-nodes (w .ready .tree))
+                (w .ready .tree .inside v l) (w .ready .tree .rank-low v a l),
+          ))
           ∙ w .slotted .at v a l;
     };
   }

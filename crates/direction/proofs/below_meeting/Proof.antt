@@ -15,7 +15,7 @@ abbrev μ-loop : tie.MeasureT-loop
 loop-holds : tie.Need-loop-holds Inv-loop μ-loop
 loop-holds c =
     let entry = c .before .before .before in
-    ascending-start (entry .pre .0) (entry .pre .1) (entry .pre .2)
+    ascending-start (entry .pre .0) (entry .pre .1)
 
 get-requires : tie.Need-get-requires Inv-loop μ-loop
 get-requires c κs =

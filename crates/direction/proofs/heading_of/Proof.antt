@@ -2,7 +2,7 @@
 use borrow.Author.Needs.{needs}
 use mathlib.Core.Path.{sym, _∙_}
 use Rattle.direction.specs.Direction.{edgeSlope}
-use Rattle.direction.proofs.Headings.{heading-down, heading-up, side-edges, heading-side}
+use Rattle.direction.proofs.Headings.{pair-back, heading-down, heading-up, side-edges, heading-side}
 use Rattle.direction.proofs.heading_of.Statement.{statement}
 use Rattle.direction.proofs.heading_of.Tie as tie
 
@@ -34,17 +34,16 @@ below-meeting-requires c κs =
     let not-down = c .before .before in
     let at-down = not-down .before in
     let entry = at-down .before .before .before .before in
-    (entry .pre .0, entry .pre .1, sym (at-down .in-subtree .ensures) ∙ not-down .if1 .left)
+    let not-over = sym (at-down .in-subtree .ensures) ∙ not-down .if1 .left in
+    (entry .pre .0, record { pair = entry .pre .1; not-over = not-over })
 
 below-meeting-requires-2 : tie.Need-below-meeting-requires-2
 below-meeting-requires-2 c κs =
     let not-up = c .before in
     let at-up = not-up .before in
-    let entry = at-up .before .before .before .before .before .before in (
-      entry .pre .0,
-      record { first = entry .pre .1 .second; second = entry .pre .1 .first },
-      sym (at-up .in-subtree2 .ensures) ∙ not-up .if2 .left,
-    )
+    let entry = at-up .before .before .before .before .before .before in
+    let not-over = sym (at-up .in-subtree2 .ensures) ∙ not-up .if2 .left in
+    (entry .pre .0, record { pair = pair-back (entry .pre .1); not-over = not-over })
 
 sideways-of-requires : tie.Need-sideways-of-requires
 sideways-of-requires c κs =

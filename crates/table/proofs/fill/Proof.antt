@@ -55,8 +55,7 @@ put-requires c κs =
     let at-get = at-get2 .before in
     let at-loop-test = at-get .before in
     let at-loop = at-loop-test .before in
-    let at-entry = at-loop .before .before .before .before in
-    (
+    let at-entry = at-loop .before .before .before .before in (
       slot-in (at-loop .loop .inv .0) (at-loop-test .loop-test .taken) (at-get .get .ensures .0) (at-get2 .get2 .ensures .0) (at-get3 .get3 .ensures .0),
       omega (arith, at-entry .pre .few),
     )

@@ -48,8 +48,7 @@ add-put-3 c =
 put-requires-2 : tie.Need-put-requires-2
 put-requires-2 c κs =
     let at-put = c .before .before .before .before .before .before .before .before in
-    let at-entry = at-put .before .before .before .before .before in
-    (
+    let at-entry = at-put .before .before .before .before .before in (
       omega (arith, at-entry .pre .1, noted-seated (at-entry .pre .0) (at-entry .pre .1) (at-entry .pre .2) (at-put .put .ensures) .ready .long),
       omega (arith, visited-room (at-entry .pre .0) (at-entry .pre .1) (at-entry .pre .2), at-entry .pre .0 .seated .ready .few),
     )
@@ -118,8 +117,7 @@ put-requires-3 : tie.Need-put-requires-3
 put-requires-3 c κs =
     let at-get4 = c .before in
     let at-put = at-get4 .before .before .before .before .before .before .before .before .before .before .before in
-    let at-entry = at-put .before .before .before .before .before in
-    (
+    let at-entry = at-put .before .before .before .before .before in (
       omega (arith, at-entry .pre .1, noted-seated (at-entry .pre .0) (at-entry .pre .1) (at-entry .pre .2) (at-put .put .ensures) .ready .long),
       at-get4 .get4 .ensures .1,
     )

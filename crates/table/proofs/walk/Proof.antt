@@ -48,8 +48,7 @@ loop-again : tie.Need-loop-again Inv-loop μ-loop
 loop-again c =
     let at-visit = c .before .before .before .before in
     let at-loop = at-visit .before .before .before in
-    let at-entry = at-loop .before .before .before .before .before .before in
-    (
+    let at-entry = at-loop .before .before .before .before .before .before in (
       walking-step (at-loop .loop .inv .0) (at-visit .visit .ensures) (c .next .ensures),
       at-visit .visit .ensures .seated .ready .long ∙ sym (at-entry .pre .ready .long),
     )
