@@ -32,7 +32,8 @@ module _ {P R W : List ℕ} (w : Ready P R W) where
     count-is = omega (arith, w .started .at (v + 1) (omega arith), start-is, sum-more (children P) v)
 
     pub child-slot-in : (r : ℕ) → s + r < e → length P + 1 + (s + r) < 2 * length P
-    child-slot-in r h = omega (arith, start-is, count-is, slot-below P v r (tree-nodes (w .tree)) l (omega (arith, count-is)))
+    child-slot-in r h =
+        omega (arith, start-is, count-is, slot-below P v r (tree-nodes (w .tree)) l (omega (arith, count-is)))
 
   pub ready-kept : {X : List ℕ} {a e : ℕ} → Only a e W X → length P < a → Ready P R X
   ready-kept o h = record {
@@ -77,7 +78,8 @@ pub record Filling (P R X : List ℕ) (v : ℕ) : Type 0 where
 pub filling-start : {P R W : List ℕ} → Ready P R W → Filling P R W 1
 filling-start w = record { from = omega arith; ready = w; done = λ u a b. absurd (omega arith) }
 
-module _ {P R X : List ℕ} {v p r : ℕ} (i : Filling P R X v) (l : v < length P) (ep : p ≡ parent P v) (er : r ≡ rank R v) where
+module _ {P R X : List ℕ} {v p r : ℕ} (i : Filling P R X v) (l : v < length P) (ep : p ≡ parent P v)
+    (er : r ≡ rank R v) where
   pub parent-in : p < length X
   parent-in = omega (arith, i .ready .tree .inside v l, i .ready .long)
 
@@ -127,7 +129,8 @@ module _ {P R X : List ℕ} {v p r : ℕ} (i : Filling P R X v) (l : v < length 
 
         earlier : (u : ℕ) → u < v + 1 → (length P + 1 + slot P R u ≡ length P + 1 + (k + r) → ⊥) → u < v
         earlier u b ne =
-            by-eq u v (λ e. absurd (ne (ap (λ (x : ℕ). length P + 1 + x) (ap (slot P R) e ∙ sym slot-is)))) (λ no-eq. omega arith)
+            by-eq u v (λ e. absurd (ne (ap (λ (x : ℕ). length P + 1 + x) (ap (slot P R) e ∙ sym slot-is))))
+            (λ no-eq. omega arith)
 
 pub filling-end : {P R X : List ℕ} {v : ℕ} → Filling P R X v → length P ≤ v → Seated P R X
 filling-end i h = record { ready = i .ready; slotted = record { at = λ u a l. i .done u a (omega arith) l } }
@@ -140,59 +143,60 @@ pub record Descending (P R W : List ℕ) (v u s : ℕ) : Type 0 where
   pub same : start P R u ≡ start P R v
   pub slots : s ≡ getD W u 0
 
-module _ {P R W : List ℕ} {v u s e : ℕ} (w : Seated P R W) (i : Descending P R W v u s) (ee : e ≡ getD W (u + 1) 0) where
-  pub descending-slot : s < e → length P + 1 + s < length W
-  descending-slot h =
-      let inside = child-slot-in (w .ready) (i .inside) (i .slots) ee 0 (omega arith) in
-      omega (arith, w .ready .long)
+module _ {P R W : List ℕ} {v u s e : ℕ} (w : Seated P R W) (i : Descending P R W v u s) (ee : e ≡ getD W (u + 1) 0)
+  where
+    pub descending-slot : s < e → length P + 1 + s < length W
+    descending-slot h =
+        let inside = child-slot-in (w .ready) (i .inside) (i .slots) ee 0 (omega arith) in
+        omega (arith, w .ready .long)
 
-  has-child : s < e → 0 < children P u
-  has-child h = omega (arith, count-is (w .ready) (i .inside) (i .slots) ee)
+    has-child : s < e → 0 < children P u
+    has-child h = omega (arith, count-is (w .ready) (i .inside) (i .slots) ee)
 
-  module _ {x : ℕ} (h : s < e) (ex : x ≡ getD W (length P + 1 + s) 0) where
-    first-child-is : x ≡ childAt P R u 0
-    first-child-is =
-        ex ∙ ap (λ (k : ℕ). getD W (length P + 1 + k) 0) (omega arith)
-        ∙ child-seated w {s = s} {e = e} 0 (i .inside) (i .slots) ee (omega arith)
+    module _ {x : ℕ} (h : s < e) (ex : x ≡ getD W (length P + 1 + s) 0) where
+      first-child-is : x ≡ childAt P R u 0
+      first-child-is =
+          ex ∙ ap (λ (k : ℕ). getD W (length P + 1 + k) 0) (omega arith)
+          ∙ child-seated w {s = s} {e = e} 0 (i .inside) (i .slots) ee (omega arith)
 
-    pub descending-inside : x < length P
-    descending-inside =
-        subst⁻¹ (λ (k : ℕ). k < length P) first-child-is (child-at (w .ready .tree) u 0 (has-child h) .inside)
+      pub descending-inside : x < length P
+      descending-inside =
+          subst⁻¹ (λ (k : ℕ). k < length P) first-child-is (child-at (w .ready .tree) u 0 (has-child h) .inside)
 
-    pub descending-step : {y : ℕ} → y ≡ getD W x 0 → Descending P R W v x y
-    descending-step ey = record {
-      inside = descending-inside;
-      same = ap (start P R) first-child-is ∙ first-child (w .ready .tree) u (i .inside) (has-child h) ∙ i .same;
-      slots = ey;
+      pub descending-step : {y : ℕ} → y ≡ getD W x 0 → Descending P R W v x y
+      descending-step ey = record {
+        inside = descending-inside;
+        same = ap (start P R) first-child-is ∙ first-child (w .ready .tree) u (i .inside) (has-child h) ∙ i .same;
+        slots = ey;
+      }
+
+      -- the subtree shrinks
+      pub descending-less : size P R x < size P R u
+      descending-less =
+          omega (
+            arith,
+            number-is (w .ready .tree) x descending-inside,
+            number-is (w .ready .tree) u (i .inside),
+            ap (start P R) first-child-is ∙ first-child (w .ready .tree) u (i .inside) (has-child h),
+            below,
+          )
+        where
+          below : postNumber P R x < postNumber P R u
+          below =
+              let k = child-at (w .ready .tree) u 0 (has-child h) in
+              let later = numbering (w .ready .tree) .parent-later (childAt P R u 0) (k .above) (k .inside) in
+              omega (arith, ap (postNumber P R) first-child-is, ap (postNumber P R) (k .up))
+
+    pub descending-end : v < length P → e ≤ s → Leftmost P R v u
+    descending-end lv h = record {
+      inside = i .inside;
+      number = omega (
+        arith,
+        leaf-number (w .ready .tree) u (i .inside) (omega (arith, count-is (w .ready) (i .inside) (i .slots) ee)),
+        i .same,
+        first-is (w .ready .tree) v lv,
+      );
     }
-
-    -- the subtree shrinks
-    pub descending-less : size P R x < size P R u
-    descending-less =
-        omega (
-          arith,
-          number-is (w .ready .tree) x descending-inside,
-          number-is (w .ready .tree) u (i .inside),
-          ap (start P R) first-child-is ∙ first-child (w .ready .tree) u (i .inside) (has-child h),
-          below,
-        )
-      where
-        below : postNumber P R x < postNumber P R u
-        below =
-            let k = child-at (w .ready .tree) u 0 (has-child h) in
-            let later = numbering (w .ready .tree) .parent-later (childAt P R u 0) (k .above) (k .inside) in
-            omega (arith, ap (postNumber P R) first-child-is, ap (postNumber P R) (k .up))
-
-  pub descending-end : v < length P → e ≤ s → Leftmost P R v u
-  descending-end lv h = record {
-    inside = i .inside;
-    number = omega (
-      arith,
-      leaf-number (w .ready .tree) u (i .inside) (omega (arith, count-is (w .ready) (i .inside) (i .slots) ee)),
-      i .same,
-      first-is (w .ready .tree) v lv,
-    );
-  }
 
 ------------------------------------------------------------------------
 -- On to the next node
@@ -281,7 +285,8 @@ module _ {P R W : List ℕ} {v c : ℕ} (i : Visited P R W c) (l : v < length P)
     noted-node j h =
         ap (λ (y : List ℕ). getD y (3 * length P + j) 0) ex
         ∙ read-set W (3 * length P + c) (3 * length P + j) v _ visited-order
-        (λ e. sym (place-of-number (i .seated .ready .tree) v l) ∙ ap (λ (k : ℕ). getD (order P R) k 0) (omega (arith, n)))
+        (λ e. sym (place-of-number (i .seated .ready .tree) v l)
+        ∙ ap (λ (k : ℕ). getD (order P R) k 0) (omega (arith, n)))
         (λ ne. i .node j (earlier ne))
       where
         earlier : (3 * length P + j ≡ 3 * length P + c → ⊥) → j < c
@@ -299,7 +304,8 @@ module _ {P R W : List ℕ} {v c : ℕ} (i : Visited P R W c) (l : v < length P)
             (λ ne. in-order .below (2 * length P + u) (omega arith) ∙ i .first u m (earlier u m h ne));
         node = λ j h.
             ap (λ (y : List ℕ). getD y (3 * length P + j) 0) ey
-            ∙ read-set X (2 * length P + v) (3 * length P + j) f _ room (λ e. absurd (omega arith)) (λ ne. noted-node j h);
+            ∙ read-set X (2 * length P + v) (3 * length P + j) f _ room (λ e. absurd (omega arith))
+            (λ ne. noted-node j h);
       }
         where
           below : 2 * length P + v < 3 * length P
@@ -332,7 +338,8 @@ module _ {P R W : List ℕ} {v c : ℕ} (i : Visited P R W c) (l : v < length P)
 
       pub visited-slot : s < e → length P + 1 + s < length X
       visited-slot h =
-          let inside = child-slot-in (noted-seated .ready) l es ee 0 (omega arith) in omega (arith, noted-seated .ready .long)
+          let inside = child-slot-in (noted-seated .ready) l es ee 0 (omega arith) in
+          omega (arith, noted-seated .ready .long)
 
       module _ {u : ℕ} (h : s < e) (eu : u ≡ getD X (length P + 1 + s) 0) where
         child-is : u ≡ childAt P R v 0
@@ -398,10 +405,12 @@ walking-above {P} {R} i h =
     z : {v : ℕ} → v ≤ 0 → v ≡ 0
     z a = omega arith
 
-pub walking-step : {P R X Y : List ℕ} {v u c : ℕ} → Walking P R X v c → Visited P R Y (c + 1) → Next P R v u → Walking P R Y u (c + 1)
+pub walking-step : {P R X Y : List ℕ} {v u c : ℕ} → Walking P R X v c → Visited P R Y (c + 1) → Next P R v u
+    → Walking P R Y u (c + 1)
 walking-step i d m = record { visited = d; inside = m .inside; number = omega (arith, m .number, i .number) }
 
-pub walking-end : {P R X Y : List ℕ} {v c : ℕ} → Walking P R X v c → length P ≤ c + 1 → Visited P R Y (c + 1) → Visited P R Y (length P)
+pub walking-end : {P R X Y : List ℕ} {v c : ℕ} → Walking P R X v c → length P ≤ c + 1 → Visited P R Y (c + 1)
+    → Visited P R Y (length P)
 walking-end {P} {R} {X} {Y} {v} {c} i h d =
     let e : c + 1 ≡ length P = omega (arith, visited-room (i .visited) (i .inside) (i .number)) in
     subst (Visited P R Y) e d
@@ -451,7 +460,8 @@ module _ {P R W X : List ℕ} {j v : ℕ} (d : Visited P R W (length P)) (i : In
           (λ e. absurd (ne (numbering (d .seated .ready .tree) .once u v m inverting-inside (e ∙ sym number-is-next))))
           (λ other. omega arith)
 
-pub inverting-end : {P R W X : List ℕ} {j : ℕ} → Visited P R W (length P) → Inverting P R W X j → length P ≤ j → Numbered P R X
+pub inverting-end : {P R W X : List ℕ} {j : ℕ} → Visited P R W (length P) → Inverting P R W X j → length P ≤ j
+    → Numbered P R X
 inverting-end {P} {R} d i h = record {
   long = i .kept .long ∙ d .seated .ready .long;
   last = λ v l. i .done v l (omega (arith, numbering (d .seated .ready .tree) .to-n v l));

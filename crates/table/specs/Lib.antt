@@ -9,3 +9,4 @@ pub mod Postorder
 pub mod Numbering
 pub mod Subtrees
 pub mod Work
+pub mod Examples

@@ -32,7 +32,8 @@ get-requires-3 c κs =
     let at-get = at-get2 .before in
     let at-loop-test = at-get .before in
     let at-loop = at-loop-test .before in
-    parent-in (at-loop .loop .inv .0) (at-loop-test .loop-test .taken) (at-get .get .ensures .0) (at-get2 .get2 .ensures .0)
+    parent-in (at-loop .loop .inv .0) (at-loop-test .loop-test .taken) (at-get .get .ensures .0)
+    (at-get2 .get2 .ensures .0)
 
 add-s : tie.Need-add-s Inv-loop μ-loop
 add-s c =
@@ -56,7 +57,8 @@ put-requires c κs =
     let at-loop-test = at-get .before in
     let at-loop = at-loop-test .before in
     let at-entry = at-loop .before .before .before .before in (
-      slot-in (at-loop .loop .inv .0) (at-loop-test .loop-test .taken) (at-get .get .ensures .0) (at-get2 .get2 .ensures .0) (at-get3 .get3 .ensures .0),
+      slot-in (at-loop .loop .inv .0) (at-loop-test .loop-test .taken) (at-get .get .ensures .0)
+          (at-get2 .get2 .ensures .0) (at-get3 .get3 .ensures .0),
       omega (arith, at-entry .pre .few),
     )
 
@@ -75,7 +77,8 @@ loop-again c =
     let at-loop-test = at-get .before in
     let at-loop = at-loop-test .before in
     let at-entry = at-loop .before .before .before .before in
-    let filled = filling-step (at-loop .loop .inv .0) (at-loop-test .loop-test .taken) (at-get .get .ensures .0) (at-get2 .get2 .ensures .0) (at-get3 .get3 .ensures .0) (at-put .put .ensures) in
+    let filled = filling-step (at-loop .loop .inv .0) (at-loop-test .loop-test .taken) (at-get .get .ensures .0)
+    (at-get2 .get2 .ensures .0) (at-get3 .get3 .ensures .0) (at-put .put .ensures) in
     (filled, filled .ready .long ∙ sym (at-entry .pre .long))
 
 same-length : tie.Need-same-length Inv-loop μ-loop

@@ -37,8 +37,10 @@ put-requires c κs =
     let at-get = c .before in
     let at-loop-test = at-get .before .before in
     let at-loop = at-loop-test .before in
-    let at-entry = at-loop .before .before .before .before in
-    (inverting-in (at-entry .pre) (at-loop .loop .inv) (at-loop-test .loop-test .taken) (at-get .get .ensures .0), omega (arith, at-entry .pre .seated .ready .few))
+    let at-entry = at-loop .before .before .before .before in (
+      inverting-in (at-entry .pre) (at-loop .loop .inv) (at-loop-test .loop-test .taken) (at-get .get .ensures .0),
+      omega (arith, at-entry .pre .seated .ready .few),
+    )
 
 add-j : tie.Need-add-j Inv-loop μ-loop
 add-j c = omega arith
@@ -53,7 +55,8 @@ loop-again c =
     let at-loop-test = at-get .before .before in
     let at-loop = at-loop-test .before in
     let at-entry = at-loop .before .before .before .before in
-    inverting-step (at-entry .pre) (at-loop .loop .inv) (at-loop-test .loop-test .taken) (at-get .get .ensures .0) (at-put .put .ensures)
+    inverting-step (at-entry .pre) (at-loop .loop .inv) (at-loop-test .loop-test .taken) (at-get .get .ensures .0)
+    (at-put .put .ensures)
 
 same-length : tie.Need-same-length Inv-loop μ-loop
 same-length c =

@@ -38,7 +38,12 @@ add-get-3 c =
     let at-get2 = c .before in
     let at-loop = at-get2 .before in
     let at-entry = at-loop .before .before .before .before .before in
-    omega (arith, descending-slot (at-entry .pre .0) (at-loop .loop .inv) (at-get2 .get2 .ensures .0) (c .if1 .taken), at-entry .pre .0 .ready .long)
+    omega (
+      arith,
+      descending-slot (at-entry .pre .0) (at-loop .loop .inv) (at-get2 .get2 .ensures .0)
+          (c .if1 .taken),
+      at-entry .pre .0 .ready .long,
+    )
 
 get-requires-3 : tie.Need-get-requires-3 Inv-loop μ-loop
 get-requires-3 c κs =
@@ -53,7 +58,12 @@ get-requires-4 c κs =
     let at-get2 = at-if1 .before in
     let at-loop = at-get2 .before in
     let at-entry = at-loop .before .before .before .before .before in
-    omega (arith, first-in (at-entry .pre .0 .ready) _ (descending-inside (at-entry .pre .0) (at-loop .loop .inv) (at-get2 .get2 .ensures .0) (at-if1 .if1 .taken) (c .get3 .ensures .0)))
+    omega (
+      arith,
+      first-in (at-entry .pre .0 .ready) _
+          (descending-inside (at-entry .pre .0) (at-loop .loop .inv) (at-get2 .get2 .ensures .0) (at-if1 .if1 .taken)
+          (c .get3 .ensures .0)),
+    )
 
 loop-less : tie.Need-loop-less Inv-loop μ-loop
 loop-less c =
@@ -62,7 +72,8 @@ loop-less c =
     let at-get2 = at-if1 .before in
     let at-loop = at-get2 .before in
     let at-entry = at-loop .before .before .before .before .before in
-    descending-less (at-entry .pre .0) (at-loop .loop .inv) (at-get2 .get2 .ensures .0) (at-if1 .if1 .taken) (at-get3 .get3 .ensures .0)
+    descending-less (at-entry .pre .0) (at-loop .loop .inv) (at-get2 .get2 .ensures .0) (at-if1 .if1 .taken)
+    (at-get3 .get3 .ensures .0)
 
 loop-again : tie.Need-loop-again Inv-loop μ-loop
 loop-again c =
@@ -71,7 +82,8 @@ loop-again c =
     let at-get2 = at-if1 .before in
     let at-loop = at-get2 .before in
     let at-entry = at-loop .before .before .before .before .before in
-    descending-step (at-entry .pre .0) (at-loop .loop .inv) (at-get2 .get2 .ensures .0) (at-if1 .if1 .taken) (at-get3 .get3 .ensures .0) (c .get4 .ensures .0)
+    descending-step (at-entry .pre .0) (at-loop .loop .inv) (at-get2 .get2 .ensures .0) (at-if1 .if1 .taken)
+    (at-get3 .get3 .ensures .0) (c .get4 .ensures .0)
 
 returns : tie.Need-returns Inv-loop μ-loop
 returns c =

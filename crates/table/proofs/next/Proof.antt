@@ -19,7 +19,12 @@ get-requires-3 : tie.Need-get-requires-3
 get-requires-3 c κs =
     let at-get = c .before in
     let at-entry = at-get .before .before .before .before in
-    omega (arith, first-in (at-entry .pre .0 .ready) _ (at-entry .pre .0 .ready .tree .inside _ (at-entry .pre .2)), at-get .get .ensures)
+    omega (
+      arith,
+      first-in (at-entry .pre .0 .ready) _
+          (at-entry .pre .0 .ready .tree .inside _ (at-entry .pre .2)),
+      at-get .get .ensures,
+    )
 
 add-s : tie.Need-add-s
 add-s c =
@@ -40,7 +45,12 @@ get-requires-4 : tie.Need-get-requires-4
 get-requires-4 c κs =
     let at-get = c .before .before in
     let at-entry = at-get .before .before .before .before in
-    omega (arith, first-in (at-entry .pre .0 .ready) _ (at-entry .pre .0 .ready .tree .inside _ (at-entry .pre .2)), at-get .get .ensures)
+    omega (
+      arith,
+      first-in (at-entry .pre .0 .ready) _
+          (at-entry .pre .0 .ready .tree .inside _ (at-entry .pre .2)),
+      at-get .get .ensures,
+    )
 
 returns : tie.Need-returns
 returns c =
@@ -49,7 +59,8 @@ returns c =
     let at-get2 = at-get3 .before in
     let at-get = at-get2 .before in
     let at-entry = at-get .before .before .before .before in
-    next-parent (at-entry .pre .0) (at-entry .pre .1) (at-entry .pre .2) (at-get .get .ensures .0) (at-get2 .get2 .ensures .0) (at-get3 .get3 .ensures .0) (at-get4 .get4 .ensures .0) (c .if1 .taken)
+    next-parent (at-entry .pre .0) (at-entry .pre .1) (at-entry .pre .2) (at-get .get .ensures .0)
+    (at-get2 .get2 .ensures .0) (at-get3 .get3 .ensures .0) (at-get4 .get4 .ensures .0) (c .if1 .taken)
 
 add-get-2 : tie.Need-add-get-2
 add-get-2 c = omega arith
@@ -61,7 +72,12 @@ add-get-3 c =
     let at-get2 = at-get3 .before in
     let at-get = at-get2 .before in
     let at-entry = at-get .before .before .before .before in
-    omega (arith, next-slot (at-entry .pre .0) (at-entry .pre .1) (at-entry .pre .2) (at-get .get .ensures .0) (at-get2 .get2 .ensures .0) (at-get3 .get3 .ensures .0) (at-get4 .get4 .ensures .0) (c .if1 .left), at-entry .pre .0 .ready .long)
+    omega (
+      arith,
+      next-slot (at-entry .pre .0) (at-entry .pre .1) (at-entry .pre .2) (at-get .get .ensures .0)
+          (at-get2 .get2 .ensures .0) (at-get3 .get3 .ensures .0) (at-get4 .get4 .ensures .0) (c .if1 .left),
+      at-entry .pre .0 .ready .long,
+    )
 
 get-requires-5 : tie.Need-get-requires-5
 get-requires-5 c κs =
@@ -70,7 +86,8 @@ get-requires-5 c κs =
     let at-get2 = at-get3 .before in
     let at-get = at-get2 .before in
     let at-entry = at-get .before .before .before .before in
-    next-slot (at-entry .pre .0) (at-entry .pre .1) (at-entry .pre .2) (at-get .get .ensures .0) (at-get2 .get2 .ensures .0) (at-get3 .get3 .ensures .0) (at-get4 .get4 .ensures .0) (c .if1 .left)
+    next-slot (at-entry .pre .0) (at-entry .pre .1) (at-entry .pre .2) (at-get .get .ensures .0)
+    (at-get2 .get2 .ensures .0) (at-get3 .get3 .ensures .0) (at-get4 .get4 .ensures .0) (c .if1 .left)
 
 leaf-requires : tie.Need-leaf-requires
 leaf-requires c κs =
@@ -79,8 +96,12 @@ leaf-requires c κs =
     let at-get3 = at-get4 .before in
     let at-get2 = at-get3 .before in
     let at-get = at-get2 .before in
-    let at-entry = at-get .before .before .before .before in
-    (at-entry .pre .0, sibling-inside (at-entry .pre .0) (at-entry .pre .1) (at-entry .pre .2) (at-get .get .ensures .0) (at-get2 .get2 .ensures .0) (at-get3 .get3 .ensures .0) (at-get4 .get4 .ensures .0) (at-if1 .if1 .left) (c .get5 .ensures .0))
+    let at-entry = at-get .before .before .before .before in (
+      at-entry .pre .0,
+      sibling-inside (at-entry .pre .0) (at-entry .pre .1) (at-entry .pre .2)
+          (at-get .get .ensures .0) (at-get2 .get2 .ensures .0) (at-get3 .get3 .ensures .0) (at-get4 .get4 .ensures .0)
+          (at-if1 .if1 .left) (c .get5 .ensures .0),
+    )
 
 returns-2 : tie.Need-returns-2
 returns-2 c =
@@ -91,7 +112,9 @@ returns-2 c =
     let at-get2 = at-get3 .before in
     let at-get = at-get2 .before in
     let at-entry = at-get .before .before .before .before in
-    next-leaf (at-entry .pre .0) (at-entry .pre .1) (at-entry .pre .2) (at-get .get .ensures .0) (at-get2 .get2 .ensures .0) (at-get3 .get3 .ensures .0) (at-get4 .get4 .ensures .0) (at-if1 .if1 .left) (at-get5 .get5 .ensures .0) (c .leaf .ensures)
+    next-leaf (at-entry .pre .0) (at-entry .pre .1) (at-entry .pre .2) (at-get .get .ensures .0)
+    (at-get2 .get2 .ensures .0) (at-get3 .get3 .ensures .0) (at-get4 .get4 .ensures .0) (at-if1 .if1 .left)
+    (at-get5 .get5 .ensures .0) (c .leaf .ensures)
 
 pub next-spec : {M : Type 1} → statement M
 next-spec =

@@ -35,7 +35,8 @@ returns c =
     let at-tally = at-accumulate .before .before .before .before in
     let at-clear = at-tally .before .before .before .before in
     let at-entry = at-clear .before .before .before .before in
-    started-all (at-entry .pre) (at-clear .clear .ensures) (at-tally .tally .ensures) (at-accumulate .accumulate .ensures)
+    started-all (at-entry .pre) (at-clear .clear .ensures) (at-tally .tally .ensures)
+    (at-accumulate .accumulate .ensures)
 
 pub starts-spec : {M : Type 1} → statement M
 starts-spec =

@@ -16,14 +16,21 @@ add-put c =
 
 put-requires : tie.Need-put-requires
 put-requires c κs =
-    let at-entry = c .before .before .before .before in
-    (visited-order (at-entry .pre .0) (at-entry .pre .1) (at-entry .pre .2), omega (arith, at-entry .pre .0 .seated .ready .few))
+    let at-entry = c .before .before .before .before in (
+      visited-order (at-entry .pre .0) (at-entry .pre .1) (at-entry .pre .2),
+      omega (arith, at-entry .pre .0 .seated .ready .few),
+    )
 
 get-requires : tie.Need-get-requires
 get-requires c κs =
     let at-put = c .before .before .before in
     let at-entry = at-put .before .before .before .before .before in
-    omega (arith, first-in (noted-seated (at-entry .pre .0) (at-entry .pre .1) (at-entry .pre .2) (at-put .put .ensures) .ready) _ (at-entry .pre .1))
+    omega (
+      arith,
+      first-in
+          (noted-seated (at-entry .pre .0) (at-entry .pre .1) (at-entry .pre .2) (at-put .put .ensures) .ready) _
+          (at-entry .pre .1),
+    )
 
 add-get : tie.Need-add-get
 add-get c = omega arith
@@ -32,7 +39,8 @@ get-requires-2 : tie.Need-get-requires-2
 get-requires-2 c κs =
     let at-put = c .before .before .before .before .before in
     let at-entry = at-put .before .before .before .before .before in
-    first-in (noted-seated (at-entry .pre .0) (at-entry .pre .1) (at-entry .pre .2) (at-put .put .ensures) .ready) _ (at-entry .pre .1)
+    first-in (noted-seated (at-entry .pre .0) (at-entry .pre .1) (at-entry .pre .2) (at-put .put .ensures) .ready)
+    _ (at-entry .pre .1)
 
 mul-put-2 : tie.Need-mul-put-2
 mul-put-2 c = omega arith
@@ -42,15 +50,25 @@ add-put-2 c = omega arith
 
 add-put-3 : tie.Need-add-put-3
 add-put-3 c =
-    let at-entry = c .before .before .before .before .before .before .before .before .before .before .before .before .before in
+    let at-entry =
+    c .before .before .before .before .before .before .before .before .before .before .before .before .before in
     omega (arith, visited-room (at-entry .pre .0) (at-entry .pre .1) (at-entry .pre .2))
 
 put-requires-2 : tie.Need-put-requires-2
 put-requires-2 c κs =
     let at-put = c .before .before .before .before .before .before .before .before in
     let at-entry = at-put .before .before .before .before .before in (
-      omega (arith, at-entry .pre .1, noted-seated (at-entry .pre .0) (at-entry .pre .1) (at-entry .pre .2) (at-put .put .ensures) .ready .long),
-      omega (arith, visited-room (at-entry .pre .0) (at-entry .pre .1) (at-entry .pre .2), at-entry .pre .0 .seated .ready .few),
+      omega (
+        arith,
+        at-entry .pre .1,
+        noted-seated (at-entry .pre .0) (at-entry .pre .1) (at-entry .pre .2)
+            (at-put .put .ensures) .ready .long,
+      ),
+      omega (
+        arith,
+        visited-room (at-entry .pre .0) (at-entry .pre .1) (at-entry .pre .2),
+        at-entry .pre .0 .seated .ready .few,
+      ),
     )
 
 same-length : tie.Need-same-length
@@ -65,7 +83,8 @@ returns c =
     let at-put = at-get .before .before .before .before in
     let at-entry = at-put .before .before .before .before .before in
     visited-step (at-entry .pre .0) (at-entry .pre .1) (at-entry .pre .2) (at-put .put .ensures)
-    (leaf-first (at-entry .pre .0) (at-entry .pre .1) (at-entry .pre .2) (at-put .put .ensures) (at-get .get .ensures .0) (at-get2 .get2 .ensures .0) (at-if1 .if1 .taken))
+    (leaf-first (at-entry .pre .0) (at-entry .pre .1) (at-entry .pre .2) (at-put .put .ensures)
+    (at-get .get .ensures .0) (at-get2 .get2 .ensures .0) (at-if1 .if1 .taken))
     (at-put2 .put2 .ensures)
 
 add-get-2 : tie.Need-add-get-2
@@ -78,7 +97,13 @@ add-get-3 c =
     let at-get = at-get2 .before .before in
     let at-put = at-get .before .before .before .before in
     let at-entry = at-put .before .before .before .before .before in
-    omega (arith, visited-slot (at-entry .pre .0) (at-entry .pre .1) (at-entry .pre .2) (at-put .put .ensures) (at-get .get .ensures .0) (at-get2 .get2 .ensures .0) (at-if1 .if1 .left), noted-seated (at-entry .pre .0) (at-entry .pre .1) (at-entry .pre .2) (at-put .put .ensures) .ready .long)
+    omega (
+      arith,
+      visited-slot (at-entry .pre .0) (at-entry .pre .1) (at-entry .pre .2) (at-put .put .ensures)
+          (at-get .get .ensures .0) (at-get2 .get2 .ensures .0) (at-if1 .if1 .left),
+      noted-seated (at-entry .pre .0)
+          (at-entry .pre .1) (at-entry .pre .2) (at-put .put .ensures) .ready .long,
+    )
 
 get-requires-3 : tie.Need-get-requires-3
 get-requires-3 c κs =
@@ -87,7 +112,8 @@ get-requires-3 c κs =
     let at-get = at-get2 .before .before in
     let at-put = at-get .before .before .before .before in
     let at-entry = at-put .before .before .before .before .before in
-    visited-slot (at-entry .pre .0) (at-entry .pre .1) (at-entry .pre .2) (at-put .put .ensures) (at-get .get .ensures .0) (at-get2 .get2 .ensures .0) (at-if1 .if1 .left)
+    visited-slot (at-entry .pre .0) (at-entry .pre .1) (at-entry .pre .2) (at-put .put .ensures)
+    (at-get .get .ensures .0) (at-get2 .get2 .ensures .0) (at-if1 .if1 .left)
 
 mul-get : tie.Need-mul-get
 mul-get c = omega arith
@@ -105,7 +131,8 @@ get-requires-4 c κs =
     let at-get = at-get2 .before .before in
     let at-put = at-get .before .before .before .before in
     let at-entry = at-put .before .before .before .before .before in
-    visited-child (at-entry .pre .0) (at-entry .pre .1) (at-entry .pre .2) (at-put .put .ensures) (at-get .get .ensures .0) (at-get2 .get2 .ensures .0) (at-if1 .if1 .left) (at-get3 .get3 .ensures .0)
+    visited-child (at-entry .pre .0) (at-entry .pre .1) (at-entry .pre .2) (at-put .put .ensures)
+    (at-get .get .ensures .0) (at-get2 .get2 .ensures .0) (at-if1 .if1 .left) (at-get3 .get3 .ensures .0)
 
 mul-put-3 : tie.Need-mul-put-3
 mul-put-3 c = omega arith
@@ -118,7 +145,12 @@ put-requires-3 c κs =
     let at-get4 = c .before in
     let at-put = at-get4 .before .before .before .before .before .before .before .before .before .before .before in
     let at-entry = at-put .before .before .before .before .before in (
-      omega (arith, at-entry .pre .1, noted-seated (at-entry .pre .0) (at-entry .pre .1) (at-entry .pre .2) (at-put .put .ensures) .ready .long),
+      omega (
+        arith,
+        at-entry .pre .1,
+        noted-seated (at-entry .pre .0) (at-entry .pre .1) (at-entry .pre .2)
+            (at-put .put .ensures) .ready .long,
+      ),
       at-get4 .get4 .ensures .1,
     )
 
@@ -136,7 +168,9 @@ returns-2 c =
     let at-put = at-get .before .before .before .before in
     let at-entry = at-put .before .before .before .before .before in
     visited-step (at-entry .pre .0) (at-entry .pre .1) (at-entry .pre .2) (at-put .put .ensures)
-    (child-first (at-entry .pre .0) (at-entry .pre .1) (at-entry .pre .2) (at-put .put .ensures) (at-get .get .ensures .0) (at-get2 .get2 .ensures .0) (at-if1 .if1 .left) (at-get3 .get3 .ensures .0) (at-get4 .get4 .ensures .0))
+    (child-first (at-entry .pre .0) (at-entry .pre .1) (at-entry .pre .2) (at-put .put .ensures)
+    (at-get .get .ensures .0) (at-get2 .get2 .ensures .0) (at-if1 .if1 .left) (at-get3 .get3 .ensures .0)
+    (at-get4 .get4 .ensures .0))
     (at-put3 .put3 .ensures)
 
 pub visit-spec : {M : Type 1} → statement M

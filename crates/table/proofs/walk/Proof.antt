@@ -35,8 +35,11 @@ next-requires : tie.Need-next-requires Inv-loop μ-loop
 next-requires c κs =
     let at-visit = c .before .before .before in
     let at-loop-test = at-visit .before .before in
-    let at-loop = at-loop-test .before in
-    (at-visit .visit .ensures .seated, walking-above (at-loop .loop .inv .0) (at-loop-test .loop-test .taken), at-loop .loop .inv .0 .inside)
+    let at-loop = at-loop-test .before in (
+      at-visit .visit .ensures .seated,
+      walking-above (at-loop .loop .inv .0) (at-loop-test .loop-test .taken),
+      at-loop .loop .inv .0 .inside,
+    )
 
 add-c : tie.Need-add-c Inv-loop μ-loop
 add-c c = omega arith
