@@ -1,3 +1,4 @@
+pub mod Intervals
 pub mod Ascent
 pub mod Signs32
 pub mod EdgeSlopes

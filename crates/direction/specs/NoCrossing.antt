@@ -76,48 +76,49 @@ shared-start h a b f c d m i j m1 im af bf fc cd e = (meet fc, none j refl)
     whole : pos k +ℤ pos i ≡ pos m
     whole = ap pos (omega arith)
 
-    gap-1 : ℤ
-    gap-1 = pos k *ℤ (h f -ℤ h a) +ℤ pos i *ℤ (h f -ℤ h b)
+    -- m times the way up from the first edge's point to f, from f to c, and from c to the second edge's point
+    to-f : ℤ
+    to-f = pos k *ℤ (h f -ℤ h a) +ℤ pos i *ℤ (h f -ℤ h b)
 
-    gap-2 : ℤ
-    gap-2 = pos m *ℤ (h c -ℤ h f)
+    f-to-c : ℤ
+    f-to-c = pos m *ℤ (h c -ℤ h f)
 
-    gap-3 : ℤ
-    gap-3 = pos j *ℤ (h d -ℤ h c)
+    from-c : ℤ
+    from-c = pos j *ℤ (h d -ℤ h c)
 
     -- nothing is left between the two points
-    no-gap : gap-1 +ℤ gap-2 +ℤ gap-3 ≡ pos 0
+    no-gap : to-f +ℤ f-to-c +ℤ from-c ≡ pos 0
     no-gap =
-        ap (λ (n : ℤ). gap-1 +ℤ n *ℤ (h c -ℤ h f) +ℤ gap-3) (sym whole)
+        ap (λ (n : ℤ). to-f +ℤ n *ℤ (h c -ℤ h f) +ℤ from-c) (sym whole)
         ∙ solve (h a ∷ h b ∷ h f ∷ h c ∷ h d ∷ pos k ∷ pos i ∷ pos j ∷ [])
         ((v 5 ⊗ (v 2 ⊖ v 0) ⊕ v 6 ⊗ (v 2 ⊖ v 1)) ⊕ (v 5 ⊕ v 6) ⊗ (v 3 ⊖ v 2) ⊕ v 7 ⊗ (v 4 ⊖ v 3))
         (((v 5 ⊕ v 6) ⊗ v 3 ⊕ v 7 ⊗ (v 4 ⊖ v 3)) ⊖ ((v 5 ⊕ v 6) ⊗ v 0 ⊕ v 6 ⊗ (v 1 ⊖ v 0))) tt
-        ∙ ap (λ (n : ℤ). (n *ℤ h c +ℤ gap-3) -ℤ (n *ℤ h a +ℤ pos i *ℤ (h b -ℤ h a))) whole
+        ∙ ap (λ (n : ℤ). (n *ℤ h c +ℤ from-c) -ℤ (n *ℤ h a +ℤ pos i *ℤ (h b -ℤ h a))) whole
         ∙ ap (λ (z : ℤ). z -ℤ (pos m *ℤ h a +ℤ pos i *ℤ (h b -ℤ h a))) (sym e)
         ∙ +ℤ-invr (pos m *ℤ h a +ℤ pos i *ℤ (h b -ℤ h a))
 
-    least-1 : pos 0 ≤ℤ gap-1
-    least-1 =
+    to-f-least : pos 0 ≤ℤ to-f
+    to-f-least =
         ≤+≤ (pos k *ℤ (h f -ℤ h a)) (pos i *ℤ (h f -ℤ h b))
         (≤*≤ (pos k) (h f -ℤ h a) (at-least k) (up-to-least h a f af))
         (≤*≤ (pos i) (h f -ℤ h b) (at-least i) (up-to-least h b f bf))
 
-    least-2 : pos 0 ≤ℤ gap-2
-    least-2 = ≤*≤ (pos m) (h c -ℤ h f) (at-least m) (up-to-least h f c fc)
+    f-to-c-least : pos 0 ≤ℤ f-to-c
+    f-to-c-least = ≤*≤ (pos m) (h c -ℤ h f) (at-least m) (up-to-least h f c fc)
 
-    least-3 : pos 0 ≤ℤ gap-3
-    least-3 = ≤*≤ (pos j) (h d -ℤ h c) (at-least j) (<→≤ (h d -ℤ h c) cd)
+    from-c-least : pos 0 ≤ℤ from-c
+    from-c-least = ≤*≤ (pos j) (h d -ℤ h c) (at-least j) (<→≤ (h d -ℤ h c) cd)
 
     meet : UpTo h f c → f ≡ c
     meet (inl q) = q
     meet (inr q) =
-        absurd (<ℤ-irrefl (<-to no-gap (<+≤ (gap-1 +ℤ gap-2) gap-3
-        (≤+< gap-1 gap-2 least-1 (<*< (pos m) (h c -ℤ h f) (above m1) q)) least-3)))
+        absurd (<ℤ-irrefl (<-to no-gap (<+≤ (to-f +ℤ f-to-c) from-c
+        (≤+< to-f f-to-c to-f-least (<*< (pos m) (h c -ℤ h f) (above m1) q)) from-c-least)))
 
     none : (n : ℕ) → j ≡ n → j ≡ 0
     none zero q = q
     none (suc n) q =
-        absurd (<ℤ-irrefl (<-to no-gap (≤+< (gap-1 +ℤ gap-2) gap-3 (≤+≤ gap-1 gap-2 least-1 least-2)
+        absurd (<ℤ-irrefl (<-to no-gap (≤+< (to-f +ℤ f-to-c) from-c (≤+≤ to-f f-to-c to-f-least f-to-c-least)
         (<*< (pos j) (h d -ℤ h c) (above (omega arith)) cd))))
 
 ------------------------------------------------------------------------

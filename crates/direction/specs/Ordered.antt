@@ -1,11 +1,11 @@
 -- What the inner functions of the direction call require and give.
 --
---   Ordered P R W     == an accepted table with its post numbers in the work list W
+--   Ordered P R W   == an accepted table with its post numbers in the work list W
 --   Pair P u v      == u and v are nodes
 --   Apart P u v     == and v is not in u's subtree
 --   Edges P u v     == u and v are nodes, and neither is the root: each has an edge
 --   Small s         == the parts of the slope s are below the largest number of nodes
---   Answered ..     == r is the answer for an accepted table
+--   Answered .. r   == r is the answer for an accepted table
 use mathlib.Core.Bool.{false}
 use mathlib.Core.List.{List}
 use mathlib.Core.Path.{_≡_}

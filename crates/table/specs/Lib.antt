@@ -7,6 +7,5 @@ pub mod Ancestry
 pub mod Acceptance
 pub mod Postorder
 pub mod Numbering
-pub mod Subtrees
 pub mod Work
 pub mod Examples

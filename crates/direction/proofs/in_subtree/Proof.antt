@@ -1,6 +1,6 @@
 -- A subtree is an interval of post numbers.
 use borrow.Author.Needs.{needs}
-use Rattle.table.specs.Subtrees.{under-by-last, under-by-first}
+use Rattle.direction.proofs.Intervals.{under-by-last, under-by-first}
 use Rattle.direction.proofs.in_subtree.Statement.{statement}
 use Rattle.direction.proofs.in_subtree.Tie as tie
 
@@ -25,8 +25,8 @@ returns c =
     let at-first = at-last .before in
     let at-number = at-first .before in
     let entry = at-number .before .before .before .before in
-    under-by-last (entry .pre .0 .tree) (entry .pre .0 .numbered) (entry .pre .1 .first) (entry .pre .1 .second)
-    (at-number .get .ensures .0) (at-first .get2 .ensures .0) (at-last .get3 .ensures .0) (c .if1 .taken)
+    under-by-last (entry .pre .0) (entry .pre .1) (at-number .get .ensures .0)
+    (at-first .get2 .ensures .0) (at-last .get3 .ensures .0) (c .if1 .taken)
 
 returns-2 : tie.Need-returns-2
 returns-2 c =
@@ -34,8 +34,8 @@ returns-2 c =
     let at-first = at-last .before in
     let at-number = at-first .before in
     let entry = at-number .before .before .before .before in
-    under-by-first (entry .pre .0 .tree) (entry .pre .0 .numbered) (entry .pre .1 .first) (entry .pre .1 .second)
-    (at-number .get .ensures .0) (at-first .get2 .ensures .0) (at-last .get3 .ensures .0) (c .if1 .left)
+    under-by-first (entry .pre .0) (entry .pre .1) (at-number .get .ensures .0)
+    (at-first .get2 .ensures .0) (at-last .get3 .ensures .0) (c .if1 .left)
 
 pub in-subtree-spec : {M : Type 1} → statement M
 in-subtree-spec = tie.close (tie.spec get-requires mul-get add-get get-requires-2 get-requires-3 returns returns-2)
