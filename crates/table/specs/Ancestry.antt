@@ -10,11 +10,11 @@ use mathlib.Core.Path.{_≡_, refl, sym, ap, subst, _∙_}
 use Prim.Native.Nat.{ℕ, zero, suc, _+_, _-_, _≤_, _<_}
 use native.Mathlib.Nat.{zero-add, suc-add}
 use native.Mathlib.Omega.{arith}
-use lib.Dec.{leb, eqb}
-use lib.ListN.{length, getD}
+use lib.Dec.{eqb}
+use lib.ListN.{length}
 use borrow.Author.Tests.{eqb-true, eqb-false, eq-eqb, ne-eqb, leb-true, le-leb}
 use Rattle.laws.specs.Search.{least}
-use Rattle.laws.specs.SearchLaws.{least-below, least-found, least-is, least-le, least-passes}
+use Rattle.laws.specs.SearchLaws.{least-below, least-found, least-is, least-passes}
 use Rattle.laws.specs.Sums.{injective-le}
 use Rattle.laws.specs.Tests.{by-eq, by-lt, differ, false-of}
 use Rattle.table.specs.Table.{parent, rank, climb, leads, under, rise}
@@ -225,6 +225,11 @@ module _ {P R : List ℕ} (tree : Tree P R) where
       (λ z. depth-zero a la z ∙ sym (depth-zero b lb (omega arith)))
       (λ ne. sym (climb-zero P a) ∙ ap (λ (k : ℕ). climb P k a) (omega arith) ∙ down .2)
 
+  pub not-under-child : (v : ℕ) → 0 < v → v < length P → under P v (parent P v) ≡ false
+  not-under-child v p l = false-of (λ t.
+      let up : (k : ℕ) × (k ≤ length P) × (climb P k (parent P v) ≡ v) = under-steps P v (parent P v) t in
+      omega (arith, depth-parent v p l, depth-climb (up .0) (parent P v) (tree .inside v l), ap (depth P) (up .2)))
+
   -- a node of a's subtree other than a has its parent there
   pub under-on : (a v : ℕ) → v < length P → under P a v ≡ true → (v ≡ a → ⊥) → under P a (parent P v) ≡ true
   under-on a v l t ne = go (up .0) (up .2)
@@ -277,6 +282,13 @@ module _ {P R : List ℕ} (tree : Tree P R) where
   pub zero-rise : (u v : ℕ) → u < length P → v < length P → rise P u v ≡ 0 → under P u v ≡ true
   zero-rise u v lu lv e =
       subst (λ (z : ℕ). under P z v ≡ true) (ap (λ (k : ℕ). climb P k u) e ∙ climb-zero P u) (rise-common u v lu lv)
+
+  pub rise-some : (u v : ℕ) → u < length P → v < length P → under P u v ≡ false → (i : ℕ) × (rise P u v ≡ suc i)
+  rise-some u v lu lv f = go (rise P u v) refl
+    where
+      go : (r : ℕ) → rise P u v ≡ r → (i : ℕ) × (rise P u v ≡ suc i)
+      go zero e = absurd (differ (zero-rise u v lu lv e) f)
+      go (suc i) e = (i, e)
 
   -- below the lowest common ancestor there is no root
   pub rise-way : (u v i : ℕ) → v < length P → i < rise P u v → 0 < climb P i u

@@ -1,5 +1,6 @@
 pub mod Table
 pub mod Paths
+pub mod PathLaws
 pub mod Children
 pub mod TableLaws
 pub mod Ancestry

@@ -4,8 +4,8 @@
 --
 --   step c a b                     == end minus start of the way from node a to node b, in the coordinate c
 --   Rises x y d e a b              == the edge walked from node a to node b rises along (d, e)
---   PathRises P x y d e u v        == so does every edge of the tree path from u to v, walked that way: up to the lowest
---                                     common ancestor, then down
+--   PathRises P x y d e u v        == so does every edge of the tree path from u to v, walked that way: up to the
+--                                     lowest common ancestor, then down
 --   along c m i a b                == m × A + i × (B - A) in the coordinate c, for A at node a and B at node b
 --   SharePoint x y a b c d m i j   == the edges from a to b and from c to d share the point that m, i and j give
 --   CommonEnd x y a b c d m i      == that point is m × the place of a node that is an end of both
