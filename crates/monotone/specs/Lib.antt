@@ -1,0 +1,5 @@
+pub mod Monotone
+pub mod MonotoneLaws
+pub mod Plane
+pub mod Ancestry
+pub mod Paths
