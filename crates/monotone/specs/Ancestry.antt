@@ -1,10 +1,7 @@
--- Ancestors in a tree, and the steps up to the lowest common ancestor.
---
--- Two nodes without a parent in common above them do not exist, no node is its own proper ancestor, and `rise` counts the
--- steps up to the first node that has the other one in its subtree.
+-- Ancestors in a tree, and the steps from a node up to its lowest common ancestor with another one.
 use mathlib.Core.Bool.{Bool, true, false}
 use mathlib.Core.List.{List}
-use mathlib.Core.Path.{_≡_, refl, sym, ap, subst, _∙_}
+use mathlib.Core.Path.{_≡_, refl, sym, ap, subst, subst⁻¹, _∙_}
 use Prim.Native.Nat.{ℕ, zero, suc, _+_, _-_, _*_, _≤_, _<_}
 use native.Mathlib.Nat.{suc-add, zero-add, add-comm}
 use native.Mathlib.Omega.{arith}
@@ -13,7 +10,7 @@ use lib.ListN.{length}
 use borrow.Author.Tests.{eqb-true, eq-eqb, leb-true, le-leb}
 use Rattle.laws.specs.Search.{least}
 use Rattle.laws.specs.SearchLaws.{least-le, least-below, least-passes, least-is, least-found, least-cong}
-use Rattle.laws.specs.Tests.{by-lt, by-eq, differ, false-of, same-test}
+use Rattle.laws.specs.Tests.{by-lt, differ, false-of, same-test}
 use Rattle.table.specs.Table.{parent, climb, under, rise}
 use Rattle.table.specs.TableLaws.{Tree}
 
@@ -102,6 +99,29 @@ module _ {P R : List ℕ} (T : Tree P R) where
   pub under-root : (v : ℕ) → v < length P → under P 0 v ≡ true
   under-root v l = under-climb (length P) 0 v l (T .leads-home v l)
 
+  -- only the root is above the root
+  pub under-of-root : (a : ℕ) → under P a 0 ≡ true → a ≡ 0
+  under-of-root a t = let r : (k : ℕ) × (climb P k 0 ≡ a) = under-found P a 0 t in sym (r .1) ∙ climb-root T (r .0)
+
+  -- what is not above some node is not the root
+  pub not-root : (a v : ℕ) → v < length P → under P a v ≡ false → 0 < a
+  not-root a v l t = by-lt 0 a (λ h. h) (λ h. let e : a ≡ 0 = omega arith in
+      absurd (differ (under-root v l) (subst (λ (b : ℕ). under P b v ≡ false) e t)))
+
+  -- the parent of an ancestor is one
+  pub under-up : (a v : ℕ) → v < length P → under P a v ≡ true → under P (parent P a) v ≡ true
+  unfolding climb
+  under-up a v l t =
+      let r : (k : ℕ) × (climb P k v ≡ a) = under-found P a v t in
+      under-climb (suc (r .0)) (parent P a) v l (ap (parent P) (r .1))
+
+  -- no child is above its parent
+  pub child-below : (v : ℕ) → 0 < v → v < length P → under P v (parent P v) ≡ false
+  child-below v z l = false-of (λ t.
+      let r : (k : ℕ) × (climb P k (parent P v) ≡ v) = under-found P v (parent P v) t in
+      let e : v ≡ 0 = no-cycle T (r .0) v l (sym (climb-parent P (r .0) v) ∙ r .1) in
+      omega arith)
+
   -- a node's subtree is in its parent's
   pub under-parent : (a v : ℕ) → v < length P → under P a (parent P v) ≡ true → under P a v ≡ true
   under-parent a v l t =
@@ -143,3 +163,72 @@ module _ {P R : List ℕ} (T : Tree P R) where
       → under P (climb P r u) v ≡ true → rise P u v ≡ r
   unfolding rise
   rise-is u v r h before here = sym (least-is (meets u v) (length P) r h before (λ l. here))
+
+  pub rise-self : (u : ℕ) → u < length P → rise P u u ≡ 0
+  unfolding climb
+  rise-self u l = rise-is u u 0 (omega arith) (λ k h. absurd (omega arith)) (under-self T u l)
+
+  -- from an ancestor no step up is left
+  pub rise-above : (w u : ℕ) → under P w u ≡ true → rise P w u ≡ 0
+  unfolding climb
+  rise-above w u t = rise-is w u 0 (omega arith) (λ k h. absurd (omega arith)) t
+
+  -- the steps up to an ancestor lead there
+  pub rise-to : (u w : ℕ) → u < length P → w < length P → under P w u ≡ true → climb P (rise P u w) u ≡ w
+  rise-to u w l m t =
+      let up : (j : ℕ) × (climb P j u ≡ w) = under-found P w u t in
+      let down : (i : ℕ) × (climb P i w ≡ climb P (rise P u w) u) = under-found P (climb P (rise P u w) u) w (rise-meets u w l m) in
+      let few : rise P u w ≤ up .0 = by-lt (up .0) (rise P u w)
+      (λ h. absurd (differ (subst⁻¹ (λ (z : ℕ). under P z w ≡ true) (up .1) (under-self T w m)) (rise-below u w (up .0) h)))
+      (λ h. h) in
+      let s : (up .0 - rise P u w) + rise P u w ≡ up .0 = omega arith in
+      each-above T (up .0 - rise P u w) (down .0) (climb P (rise P u w) u) w (climb-inside T (rise P u w) u l)
+      (climb-climb P (up .0 - rise P u w) (rise P u w) u ∙ ap (λ (k : ℕ). climb P k u) s ∙ up .1) (down .1)
+
+  -- to an ancestor's parent it is one step more
+  pub rise-parent : (u w : ℕ) → u < length P → w < length P → 0 < w → under P w u ≡ true → rise P u (parent P w) ≡ suc (rise P u w)
+  unfolding climb
+  rise-parent u w l m z t = rise-is u (parent P w) (suc (rise P u w)) few before
+      (subst⁻¹ (λ (a : ℕ). under P a (parent P w) ≡ true) (ap (parent P) (rise-to u w l m t)) (under-self T (parent P w) (T .inside w m)))
+    where
+      few : suc (rise P u w) ≤ length P
+      few = by-lt (rise P u w) (length P) (λ h. h)
+          (λ h. absurd (let e : w ≡ 0 = sym (rise-to u w l m t) ∙ climb-far T (rise P u w) u l h in omega arith))
+
+      before : (k : ℕ) → k < suc (rise P u w) → under P (climb P k u) (parent P w) ≡ false
+      before k h = false-of (λ a.
+          let found : (j : ℕ) × (climb P j (parent P w) ≡ climb P k u) = under-found P (climb P k u) (parent P w) a in
+          let s : (rise P u w - k) + k ≡ rise P u w = omega arith in
+          let back : climb P (suc (found .0)) w ≡ climb P k u = sym (climb-parent P (found .0) w) ∙ found .1 in
+          let same : climb P k u ≡ w = each-above T (rise P u w - k) (suc (found .0)) (climb P k u) w (climb-inside T k u l)
+          (climb-climb P (rise P u w - k) k u ∙ ap (λ (i : ℕ). climb P i u) s ∙ rise-to u w l m t) back in
+          let e : w ≡ 0 = no-cycle T (found .0) w m (back ∙ same) in
+          omega arith)
+
+  module _ (u v : ℕ) (l : u < length P) (m : v < length P) (t : under P v u ≡ false) where
+    -- to a node that is no ancestor it is as many steps up as to its parent
+    pub rise-same : rise P u v ≡ rise P u (parent P v)
+    unfolding rise
+    rise-same = least-cong _ _ (length P) (λ k h. same-test _ _
+        (parent-under T (climb P k u) v m (λ e. differ (under-climb T k v u l e) t)) (under-parent T (climb P k u) v m))
+
+    -- and one step more down
+    pub rise-more : rise P v u ≡ suc (rise P (parent P v) u)
+    unfolding climb
+    rise-more = rise-is v u (suc (rise P (parent P v) u)) few before
+        (subst (λ (a : ℕ). under P a u ≡ true) (climb-parent P (rise P (parent P v) u) v) (rise-meets (parent P v) u (T .inside v m) l))
+      where
+        last : (k : ℕ) → suc k ≡ length P → length P ≤ rise P (parent P v) u → ⊥
+        last k e h =
+            differ (subst⁻¹ (λ (a : ℕ). under P a u ≡ true)
+            (climb-parent P k v ∙ ap (λ (i : ℕ). climb P i v) e ∙ T .leads-home v m) (under-root T u l))
+            (rise-below (parent P v) u k (omega arith))
+
+        few : suc (rise P (parent P v) u) ≤ length P
+        few = by-lt (rise P (parent P v) u) (length P) (λ h. h)
+            (λ h. absurd (last (length P - 1) (let s : suc (length P - 1) ≡ length P = omega (arith, T .some) in s) h))
+
+        before : (k : ℕ) → k < suc (rise P (parent P v) u) → under P (climb P k v) u ≡ false
+        before zero h = t
+        before (suc k) h =
+            subst (λ (a : ℕ). under P a u ≡ false) (climb-parent P k v) (rise-below (parent P v) u k (omega arith))

@@ -3,3 +3,4 @@ pub mod MonotoneLaws
 pub mod Plane
 pub mod Ancestry
 pub mod Paths
+pub mod Cones
