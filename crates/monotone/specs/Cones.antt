@@ -8,10 +8,11 @@
 --   Moved lo hi u m       == a move is right
 --   partAt W i            == the number at i as a part of a vector; it is stored with 2,147,483,648 added
 --   edgeAt n W z          == the vector of the edge of node z
---   Edge n W z            == z has an edge, whose parts are small
+--   Edges n W             == the nodes from 1 on have edges with small parts
 --   Pair n k              == k is a cone of two edges: the one clockwise of the other times 65,536, and that other
 --   Holds n edge k us     == k stands for the vectors us: 1 for none, 2 where no half plane holds them, or the pair of their cone
 --   Formed n k            == k is 1, 2 or a pair
+--   Alone z e r           == r stands for one vector, the edge e of z
 --   Grown n edge k z r    == r stands for one vector more than k, the edge of z
 use mathlib.Core.List.{List, [], _∷_}
 use mathlib.Core.Path.{_≡_}
@@ -42,8 +43,8 @@ After High lo hi u us = Cone lo u (u ∷ us)
 After Low lo hi u us = Cone u hi (u ∷ us)
 After Never lo hi u us = HasHalfPlane (u ∷ us) → ⊥
 
-abbrev pub Moved : Vec → Vec → Vec → Move → Type 0
-Moved lo hi u m = (us : List Vec) → Cone lo hi us → After m lo hi u us
+pub record Moved (lo hi u : Vec) (m : Move) : Type 0 where
+  pub after : (us : List Vec) → Cone lo hi us → After m lo hi u us
 
 ------------------------------------------------------------------------
 -- Edges
@@ -54,12 +55,11 @@ partAt W i = pos (getD W i 0) -ℤ pos 2147483648
 abbrev pub edgeAt : ℕ → List ℕ → ℕ → Vec
 edgeAt n W z = record { across = partAt W (n + z); up = partAt W (2 * n + z) }
 
-pub record Edge (n : ℕ) (W : List ℕ) (z : ℕ) : Type 0 where
-  pub some : 0 < z
-  pub inside : z < n
+pub record Edges (n : ℕ) (W : List ℕ) : Type 0 where
+  pub few : n ≤ 65536
   pub long : length W ≡ 4 * n
-  pub across-near : 1 ≤ getD W (n + z) 0
-  pub up-near : 1 ≤ getD W (2 * n + z) 0
+  pub across-near : (z : ℕ) → 0 < z → z < n → 1 ≤ getD W (n + z) 0
+  pub up-near : (z : ℕ) → 0 < z → z < n → 1 ≤ getD W (2 * n + z) 0
 
 ------------------------------------------------------------------------
 -- Cones
@@ -77,6 +77,11 @@ pub data Holds (n : ℕ) (edge : ℕ → Vec) (k : ℕ) (us : List Vec) : Type 0
 
 abbrev pub Formed : ℕ → ℕ → Type 0
 Formed n k = (k ≡ 1 → ⊥) → (k ≡ 2 → ⊥) → Pair n k
+
+-- 2 for a zero vector, else the pair of the edge and itself
+pub data Alone (z : ℕ) (e : Vec) (r : ℕ) : Type 0 where
+  none : (e .across ≡ pos 0) × (e .up ≡ pos 0) → r ≡ 2 → Alone z e r
+  one : ((e .across ≡ pos 0) × (e .up ≡ pos 0) → ⊥) → r ≡ z * 65536 + z → Alone z e r
 
 pub record Grown (n : ℕ) (edge : ℕ → Vec) (k z r : ℕ) : Type 0 where
   pub holds : (us : List Vec) → Holds n edge k us → Holds n edge r (edge z ∷ us)

@@ -109,8 +109,8 @@ middle-high : (lo hi : Vec) → cross lo hi ≡ dot (middle lo hi) hi
 unfolding middle
 middle-high lo hi = solve (variables lo hi lo hi) (crossE 0 2) ((v 3 ⊖ v 1) ⊗ v 2 ⊕ (v 0 ⊖ v 2) ⊗ v 3) tt
 
-pub cone-open : (lo hi : Vec) (us : List Vec) → Cone lo hi us → HasHalfPlane us
-cone-open lo hi us c =
+pub cone-open : {lo hi : Vec} {us : List Vec} → Cone lo hi us → HasHalfPlane us
+cone-open {lo} {hi} c =
     ⊎-elim
     (λ r. record { direction = lo; ahead = c .all lo (r .1) (subst (Ahead lo) (r .0) (r .1)) })
     (λ t. record {
@@ -136,7 +136,7 @@ times-0 a b h = subst⁻¹ (λ (y : ℤ). pos 0 ≤ℤ (y *ℤ b)) h (≤-to (sy
 both-0 : (a b : ℤ) → pos 0 *ℤ a +ℤ pos 0 *ℤ b ≡ pos 0
 both-0 a b = solve (a ∷ b ∷ []) (k (pos 0) ⊗ v 0 ⊕ k (pos 0) ⊗ v 1) (k (pos 0)) tt
 
-module _ (lo hi u : Vec) (us : List Vec) (c : Cone lo hi us) where
+module _ {lo hi : Vec} (u : Vec) {us : List Vec} (c : Cone lo hi us) where
   -- where hi is lo, the two cross products are opposite
   flipped-low : lo ≡ hi → cross u hi ≡ negℤ (cross lo u)
   flipped-low r = subst (λ (z : Vec). cross u z ≡ negℤ (cross lo u)) r (swapped lo u)
@@ -273,13 +273,13 @@ cone-first u h = record {
     long (yes f) = ≤+< (u .across *ℤ u .across) (u .up *ℤ u .up) (square (u .across)) (square⁺ (u .up) (λ g. h (f, g)))
 
 -- zero is ahead of nothing
-pub zero-none : (u : Vec) (us : List Vec) → u .across ≡ pos 0 → u .up ≡ pos 0 → HasHalfPlane (u ∷ us) → ⊥
-zero-none u us f g h =
+pub zero-none : (u : Vec) {us : List Vec} → u .across ≡ pos 0 → u .up ≡ pos 0 → HasHalfPlane (u ∷ us) → ⊥
+zero-none u f g h =
     <ℤ-irrefl (<-to
     (ap₂ (λ (y z : ℤ). h .direction .across *ℤ y +ℤ h .direction .up *ℤ z) f g
     ∙ ap₂ _+ℤ_ (*ℤ-zero (h .direction .across)) (*ℤ-zero (h .direction .up)))
     (h .ahead .0))
 
 -- what no half plane holds none holds with more
-pub none-more : (u : Vec) (us : List Vec) → (HasHalfPlane us → ⊥) → HasHalfPlane (u ∷ us) → ⊥
-none-more u us f h = f (record { direction = h .direction; ahead = h .ahead .1 })
+pub none-more : (u : Vec) {us : List Vec} → (HasHalfPlane us → ⊥) → HasHalfPlane (u ∷ us) → ⊥
+none-more u f h = f (record { direction = h .direction; ahead = h .ahead .1 })

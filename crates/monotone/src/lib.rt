@@ -4,7 +4,7 @@ ghost use Prim.Native.Nat.{ℕ, _+_, _*_, _≤_, _<_, _^_};
 ghost use lib.IntN.{pos, _-ℤ_};
 ghost use lib.ListN.{length, getD, set};
 ghost use Rattle.monotone.specs.Plane.{cross, dot};
-ghost use Rattle.monotone.specs.Cones.{vec, Small, Near, Moved, partAt, edgeAt, Edge, Formed, Holds, Grown};
+ghost use Rattle.monotone.specs.Cones.{vec, Small, Near, Moved, partAt, edgeAt, Edges, Alone, Formed, Grown};
 
 // What the check answers: every pair has a direction, the first pair that has none, or a refusal's number and node.
 pub enum Verdict {
@@ -56,4 +56,97 @@ fn dot_product(a: Vector, b: Vector) -> i64
     ensures { λ r. ⌜ r ≡ dot (vec a) (vec b) ⌝ }
 {
     a.across * b.across + a.up * b.up
+}
+
+// What a cone becomes with the vector u, by the signs of its cross products with the two sides.
+fn step(lo: Vector, hi: Vector, u: Vector) -> Move
+    requires { ⌜ Near lo × Near hi × Near u ⌝ }
+    ensures { λ r. ⌜ Moved (vec lo) (vec hi) (vec u) r ⌝ }
+{
+    let p = cross_product(lo, u);
+    let q = cross_product(u, hi);
+    if p > 0 {
+        if q < 0 {
+            return Move::High;
+        }
+        return Move::Keep;
+    }
+    if q > 0 {
+        if p < 0 {
+            return Move::Low;
+        }
+        return Move::Keep;
+    }
+    if p < 0 {
+        return Move::Never;
+    }
+    if q < 0 {
+        return Move::Never;
+    }
+    if dot_product(lo, u) > 0 {
+        return Move::Keep;
+    }
+    Move::Never
+}
+
+// A part of a vector, from the number that stands for it.
+fn part(work: &[u32], i: usize) -> i64
+    requires { ⌜ (i < length (now work)) × (1 ≤ getD (now work) i 0) ⌝ }
+    ensures { λ r. ⌜ (r ≡ partAt (now (work .entry)) i) × Small r ⌝ }
+{
+    let number = get(work, i) as i64;
+    number - 2147483648
+}
+
+// The edge of node z.
+fn edge(work: &[u32], n: usize, z: usize) -> Vector
+    requires { ⌜ Edges n (now work) × (0 < z) × (z < n) ⌝ }
+    ensures { λ r. ⌜ (vec r ≡ edgeAt n (now (work .entry)) z) × Near r ⌝ }
+{
+    let across = part(work, n + z);
+    let up = part(work, 2 * n + z);
+    Vector {
+        across: across,
+        up: up,
+    }
+}
+
+// The cone of a path of one edge, e of node z.
+fn alone(z: usize, e: Vector) -> usize
+    requires { ⌜ Near e × (z < 65536) ⌝ }
+    ensures { λ r. ⌜ Alone z (vec e) r ⌝ }
+{
+    let across = e.across;
+    let up = e.up;
+    if across != 0 {
+        return z * 65536 + z;
+    }
+    if up != 0 {
+        return z * 65536 + z;
+    }
+    2
+}
+
+// The cone of a path with one edge more, that of node z.
+fn grow(work: &[u32], n: usize, cone: usize, z: usize) -> usize
+    requires { ⌜ Edges n (now work) × (0 < z) × (z < n) × Formed n cone ⌝ }
+    ensures { λ r. ⌜ Grown n (edgeAt n (now (work .entry))) cone z r ⌝ }
+{
+    if cone == 2 {
+        return 2;
+    }
+    let e = edge(work, n, z);
+    if cone == 1 {
+        return alone(z, e);
+    }
+    let low = cone / 65536;
+    let high = cone % 65536;
+    let a = edge(work, n, low);
+    let b = edge(work, n, high);
+    match step(a, b, e) {
+        Move::Keep => cone,
+        Move::High => low * 65536 + z,
+        Move::Low => z * 65536 + high,
+        Move::Never => 2,
+    }
 }
