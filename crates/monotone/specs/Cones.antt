@@ -55,11 +55,16 @@ partAt W i = pos (getD W i 0) -ℤ pos 2147483648
 abbrev pub edgeAt : ℕ → List ℕ → ℕ → Vec
 edgeAt n W z = record { across = partAt W (n + z); up = partAt W (2 * n + z) }
 
+-- the number of a small part
+pub record Part (k : ℕ) : Type 0 where
+  pub least : 1 ≤ k
+  pub most : k < 4294967296
+
 pub record Edges (n : ℕ) (W : List ℕ) : Type 0 where
   pub few : n ≤ 65536
   pub long : length W ≡ 4 * n
-  pub across-near : (z : ℕ) → 0 < z → z < n → 1 ≤ getD W (n + z) 0
-  pub up-near : (z : ℕ) → 0 < z → z < n → 1 ≤ getD W (2 * n + z) 0
+  pub across : (z : ℕ) → 0 < z → z < n → Part (getD W (n + z) 0)
+  pub up : (z : ℕ) → 0 < z → z < n → Part (getD W (2 * n + z) 0)
 
 ------------------------------------------------------------------------
 -- Cones

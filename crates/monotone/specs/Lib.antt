@@ -4,3 +4,4 @@ pub mod Plane
 pub mod Ancestry
 pub mod Paths
 pub mod Cones
+pub mod Rows

@@ -4,6 +4,8 @@ ghost use Prim.Native.Nat.{ℕ, _+_, _*_, _≤_, _<_, _^_};
 ghost use lib.IntN.{pos, _-ℤ_};
 ghost use lib.ListN.{length, getD, set};
 ghost use Rattle.monotone.specs.Plane.{cross, dot};
+ghost use Rattle.laws.specs.Regions.{Only};
+ghost use Rattle.monotone.specs.Rows.{Ready, Cleared, Turned};
 ghost use Rattle.monotone.specs.Cones.{vec, Small, Near, Moved, partAt, edgeAt, Edges, Alone, Formed, Grown};
 
 // What the check answers: every pair has a direction, the first pair that has none, or a refusal's number and node.
@@ -148,5 +150,33 @@ fn grow(work: &[u32], n: usize, cone: usize, z: usize) -> usize
         Move::High => low * 65536 + z,
         Move::Low => z * 65536 + high,
         Move::Never => 2,
+    }
+}
+
+// Forgets every cone.
+fn clear(work: &mut [u32], n: usize)
+    requires { ⌜ n ≤ length (now work) ⌝ }
+    ensures { λ _. ⌜ Cleared n (now (work .exit)) × Only 0 n (now (work .entry)) (now (work .exit)) ⌝ }
+{
+    let mut v = 0;
+    while v < n {
+        put(work, v, 0);
+        v += 1;
+    }
+}
+
+// Turns the edges from u up to the root round, so that all are walked away from u; and back again.
+fn turn(parent: &[u32], work: &mut [u32], u: usize)
+    requires { ⌜ Ready (now parent) (now work) × (u < length (now parent)) ⌝ }
+    ensures { λ _. ⌜ Turned (now (parent .entry)) u (now (work .entry)) (now (work .exit)) ⌝ }
+{
+    let n = parent.len();
+    let mut z = u;
+    while 0 < z {
+        let across = get(work, n + z);
+        put(work, n + z, 4294967296 - across);
+        let up = get(work, 2 * n + z);
+        put(work, 2 * n + z, 4294967296 - up);
+        z = get(parent, z);
     }
 }
