@@ -1,6 +1,7 @@
 pub mod Search
 pub mod Tests
 pub mod SearchLaws
+pub mod Refusals
 pub mod Sums
 pub mod Regions
 pub mod RingLaws

@@ -10,8 +10,8 @@ use Prim.Native.Nat.{ℕ, zero, suc, _+_, _≤_, _<_}
 use native.Mathlib.Nat.{eq-or-lt-of-le, le-of-suc-le-suc}
 use native.Mathlib.Numerals.{add-one}
 use native.Mathlib.Omega.{arith}
-use lib.Dec.{eqb}
-use borrow.Author.Tests.{eqb-true, eq-eqb, ne-eqb}
+use lib.Dec.{ltb, eqb}
+use borrow.Author.Tests.{lt-ltb, eqb-true, eq-eqb, ne-eqb}
 use Rattle.laws.specs.Search.{bit, count}
 use Rattle.laws.specs.SearchLaws.{bit-le, count-none, count-some}
 use Rattle.laws.specs.Tests.{by-test, by-eq}
@@ -62,6 +62,11 @@ pub sum-none : (n : ℕ) → sum (λ (k : ℕ). 0) n ≡ 0
 unfolding sum
 sum-none zero = refl
 sum-none (suc n) = omega (arith, sum-none n)
+
+pub sum-ones : (n : ℕ) → sum (λ (k : ℕ). 1) n ≡ n
+unfolding sum
+sum-ones zero = refl
+sum-ones (suc n) = omega (arith, sum-ones n)
 
 pub sum-bits : (f : ℕ → Bool) (n : ℕ) → sum (λ (k : ℕ). bit (f k)) n ≡ count f n
 unfolding sum count
@@ -191,3 +196,15 @@ weigh-one f g n q l t other =
     sum-cong _ (λ (v : ℕ). weigh (f v) (g q)) n
     (λ v m. by-eq v q (λ e. ap (λ (x : ℕ). weigh (f v) (g x)) e) (λ ne. ap (λ (b : Bool). weigh b (g v)) (other v m ne) ∙ sym (ap (λ (b : Bool). weigh b (g q)) (other v m ne))))
     ∙ sum-weigh f (g q) n true (count-one f n q l t other)
+
+-- the first term and the others
+pub split-first : (h : ℕ → ℕ) (n : ℕ) → 0 < n → sum h n ≡ h 0 + weightedSum (λ (v : ℕ). ltb 0 v) h n
+unfolding sum weightedSum
+split-first h zero l = absurd (omega arith)
+split-first h (suc zero) l = omega arith
+split-first h (suc (suc n)) l =
+    omega (
+      arith,
+      split-first h (suc n) (omega arith),
+      ap (λ (b : Bool). weigh b (h (suc n))) (lt-ltb 0 (suc n) (omega arith)),
+    )

@@ -1,3 +1,9 @@
 pub mod Table
+pub mod Paths
+pub mod Children
 pub mod TableLaws
+pub mod Ancestry
+pub mod Acceptance
+pub mod Postorder
 pub mod Numbering
+pub mod Work

@@ -2,11 +2,21 @@
 --
 --   Numbering P R number   == the laws of a numbering in post-order
 --   Numbered P R W         == the regions of the work list W hold the post-order numbers
-use mathlib.Core.List.{List}
-use mathlib.Core.Path.{_≡_}
-use Prim.Native.Nat.{ℕ, _+_, _*_, _≤_, _<_}
-use lib.ListN.{length, getD}
-use Rattle.table.specs.Table.{parent, rank, climb, order, postNumber, firstNumber}
+--   numbering              == post numbers are a numbering
+--   climb-between          == a node's number lies between the first and the last of each subtree that it is in,
+--   between-climb             and is in each such subtree
+use mathlib.Core.List.{List, [], _∷_, _++_}
+use mathlib.Core.Path.{_≡_, refl, sym, ap, ap₂, subst, subst⁻¹, _∙_}
+use Prim.Native.Nat.{ℕ, zero, suc, _+_, _-_, _*_, _≤_, _<_}
+use native.Mathlib.Omega.{arith}
+use lib.ListN.{length, getD, length-append, List·getD-append}
+use lib.Seq.{getD-at, getD-append-add}
+use Rattle.laws.specs.Sums.{sum-more, sum-mono, sum-term}
+use Rattle.laws.specs.Tests.{by-lt}
+use Rattle.table.specs.Children.{childAt-only, ChildAt}
+use Rattle.table.specs.Postorder.{size, ahead, Block, start, child-at, block-of, order-length, root-size, size-step, start-root, start-child, number-is, number-le, first-is, node-at, at-place, place-of-number}
+use Rattle.table.specs.Table.{parent, rank, climb, children, childAt, forest, postorder, subtree, order, postNumber, firstNumber}
+use Rattle.table.specs.TableLaws.{Tree, tree-ranked}
 
 pub record Numbering (P R : List ℕ) (number : ℕ → ℕ) : Type 0 where
   pub from-1 : (v : ℕ) → v < length P → 1 ≤ number v
@@ -25,7 +35,177 @@ pub record Numbered (P R W : List ℕ) : Type 0 where
   pub first : (v : ℕ) → v < length P → getD W (2 * length P + v) 0 ≡ firstNumber P R v
   pub node : (j : ℕ) → j < length P → getD W (3 * length P + j) 0 ≡ getD (order P R) j 0
 
--- the node at place j of the post-order is the one with number j + 1
-pub record Placed (P R : List ℕ) (j : ℕ) : Type 0 where
-  pub inside : getD (order P R) j 0 < length P
-  pub number : postNumber P R (getD (order P R) j 0) ≡ j + 1
+------------------------------------------------------------------------
+-- A node's block is in its parent's, and siblings' blocks follow each other
+
+module _ {P R : List ℕ} (t : Tree P R) where
+  pub number-start : (v : ℕ) → v < length P → start P R v < postNumber P R v
+  number-start v l = omega (arith, number-is t v l, size-step t v l)
+
+  -- the block of the child of rank r, with what is before it among the children's
+  child-block : (v r : ℕ) → v < length P → r < children P v → start P R v + ahead P R v (r + 1) ≡ postNumber P R (childAt P R v r)
+  child-block v r l m =
+      omega (
+        arith,
+        sum-more (λ (s : ℕ). size P R (childAt P R v s)) r,
+        start-child t v r l m,
+        number-is t (childAt P R v r) (child-at t v r m .inside),
+      )
+
+  pub last-child : (v r : ℕ) → v < length P → r + 1 ≡ children P v → postNumber P R (childAt P R v r) + 1 ≡ postNumber P R v
+  last-child v r l e =
+      omega (arith, child-block v r l (omega arith), ap (ahead P R v) e, size-step t v l, number-is t v l)
+
+  pub next-child : (v r : ℕ) → v < length P → r + 1 < children P v → start P R (childAt P R v (r + 1)) ≡ postNumber P R (childAt P R v r)
+  next-child v r l m = start-child t v (r + 1) l m ∙ child-block v r l (omega arith)
+
+  pub first-child : (v : ℕ) → v < length P → 0 < children P v → start P R (childAt P R v 0) ≡ start P R v
+  unfolding Rattle.laws.specs.Sums.sum
+  first-child v l m = omega (arith, start-child t v 0 l m)
+
+  pub leaf-number : (v : ℕ) → v < length P → children P v ≡ 0 → postNumber P R v ≡ start P R v + 1
+  unfolding Rattle.laws.specs.Sums.sum
+  leaf-number v l e = omega (arith, ap (ahead P R v) e, size-step t v l, number-is t v l)
+
+  child-inside : (v r : ℕ) → v < length P → r < children P v
+      → (start P R v ≤ start P R (childAt P R v r)) × (postNumber P R (childAt P R v r) < postNumber P R v)
+  child-inside v r l m = (
+    omega (arith, start-child t v r l m),
+    omega (
+      arith,
+      child-block v r l m,
+      sum-mono (λ (s : ℕ). size P R (childAt P R v s)) (r + 1) (children P v) (omega arith),
+      size-step t v l,
+      number-is t v l,
+    ),
+  )
+
+  parent-inside : (v : ℕ) → 0 < v → v < length P → (start P R (parent P v) ≤ start P R v) × (postNumber P R v < postNumber P R (parent P v))
+  parent-inside v a l =
+      subst (λ (z : ℕ). (start P R (parent P v) ≤ start P R z) × (postNumber P R z < postNumber P R (parent P v)))
+      (childAt-only P R (tree-ranked t) v a l) (child-inside (parent P v) (rank R v) (t .inside v l) (t .rank-low v a l))
+
+  ------------------------------------------------------------------------
+  -- Subtrees are intervals of numbers
+
+  climb-inside : (k z : ℕ) → z < length P
+      → (climb P k z < length P) × (start P R (climb P k z) ≤ start P R z) × (postNumber P R z ≤ postNumber P R (climb P k z))
+  unfolding climb
+  climb-inside zero z l = (l, omega arith, omega arith)
+  climb-inside (suc k) z l =
+      let c = climb-inside k z l in
+      by-lt 0 (climb P k z)
+      (λ a.
+      let p = parent-inside (climb P k z) a (c .0) in
+      (t .inside (climb P k z) (c .0), omega (arith, c .1, p .0), omega (arith, c .2, p .1)))
+      (λ a.
+      let root : parent P (climb P k z) ≡ climb P k z = ap (parent P) (omega arith) ∙ t .root ∙ omega arith in
+      subst⁻¹ (λ (w : ℕ). (w < length P) × (start P R w ≤ start P R z) × (postNumber P R z ≤ postNumber P R w)) root c)
+
+  pub climb-between : (k z : ℕ) → z < length P → (start P R (climb P k z) < postNumber P R z) × (postNumber P R z ≤ postNumber P R (climb P k z))
+  climb-between k z l = let c = climb-inside k z l in (omega (arith, c .1, number-start z l), c .2)
+
+  -- an element of a forest is one of a tree in it
+  forest-element : (a : ℕ → List ℕ) (child : ℕ → ℕ) (m j : ℕ) → j < length (forest a child m)
+      → (r : ℕ) × (i : ℕ) × (r < m) × (i < length (a (child r))) × (getD (forest a child m) j 0 ≡ getD (a (child r)) i 0)
+  unfolding forest
+  forest-element a child zero j l = absurd (omega arith)
+  forest-element a child (suc m) j l =
+      by-lt j (length (forest a child m))
+      (λ b.
+      let e = forest-element a child m j b in
+      (e .0, e .1, omega (arith, e .2), e .3, List·getD-append (forest a child m) (a (child m)) 0 j b ∙ e .4))
+      (λ b.
+      let i : ℕ = j - length (forest a child m) in
+      let s : j ≡ length (forest a child m) + (j - length (forest a child m)) = omega arith in (
+        m,
+        j - length (forest a child m),
+        omega arith,
+        omega (arith, length-append (forest a child m) (a (child m))),
+        ap (λ (x : ℕ). getD (forest a child m ++ a (child m)) x 0) s
+            ∙ getD-append-add (forest a child m) (a (child m)) (j - length (forest a child m)) 0,
+      ))
+
+  element-climb : (f v j : ℕ) → j < length (postorder P R f v) → (k : ℕ) × (climb P k (getD (postorder P R f v) j 0) ≡ v)
+  unfolding postorder climb
+  element-climb zero v j l = absurd (omega arith)
+  element-climb (suc f) v j l =
+      let trees = forest (postorder P R f) (childAt P R v) (children P v) in
+      by-lt j (length (forest (postorder P R f) (childAt P R v) (children P v)))
+      (λ b.
+      let e = forest-element (postorder P R f) (childAt P R v) (children P v) j b in
+      let c = element-climb f (childAt P R v (e .0)) (e .1) (e .3) in (
+        suc (c .0),
+        ap (λ (z : ℕ). parent P (climb P (c .0) z)) (List·getD-append trees (v ∷ []) 0 j b ∙ e .4)
+            ∙ ap (parent P) (c .1)
+            ∙ child-at t v (e .0) (e .2) .up,
+      ))
+      (λ b. (
+        0,
+        getD-at trees v [] 0 j (omega (arith, length-append trees (v ∷ []))),
+      ))
+
+  pub between-climb : (v z : ℕ) → v < length P → z < length P → start P R v < postNumber P R z → postNumber P R z ≤ postNumber P R v
+      → (k : ℕ) × (climb P k z ≡ v)
+  unfolding subtree
+  between-climb v z lv lz low high =
+      let b = block-of t v lv in
+      let n = place-of-number t z lz in
+      let i : ℕ = postNumber P R z - 1 - start P R v in
+      let inside : (postNumber P R z - 1 - start P R v) < size P R v = omega (arith, number-is t v lv) in
+      let at : postNumber P R z - 1 ≡ length (b .front) + (postNumber P R z - 1 - start P R v) = omega (arith, b .long) in
+      let is : getD (subtree P R v) (postNumber P R z - 1 - start P R v) 0 ≡ z =
+      sym (List·getD-append (subtree P R v) (b .back) 0 _ inside)
+      ∙ sym (getD-append-add (b .front) (subtree P R v ++ b .back) _ 0)
+      ∙ ap₂ (λ (l : List ℕ) (x : ℕ). getD l x 0) (sym (b .is)) (sym at)
+      ∙ n in
+      let c = element-climb (suc (length P)) v _ inside in
+      (c .0, ap (climb P (c .0)) (sym is) ∙ c .1)
+
+  ------------------------------------------------------------------------
+  -- The laws of a numbering
+
+  pub numbers-once : (v w : ℕ) → v < length P → w < length P → postNumber P R v ≡ postNumber P R w → v ≡ w
+  numbers-once v w l m e =
+      sym (place-of-number t v l) ∙ ap (λ (k : ℕ). getD (order P R) (k - 1) 0) e ∙ place-of-number t w m
+
+  pub root-last : postNumber P R 0 ≡ length P
+  root-last = omega (arith, number-is t 0 (t .some), start-root t, root-size t)
+
+  pub numbering : Numbering P R (postNumber P R)
+  numbering = record {
+    from-1 = λ v l. omega (arith, number-start v l);
+    to-n = λ v l. omega (arith, number-is t v l, number-le t v l);
+    once = numbers-once;
+    parent-later = λ v a l. parent-inside v a l .1;
+    sibling-later = siblings;
+  }
+    where
+      siblings : (p q y z j k : ℕ) → 0 < p → p < length P → 0 < q → q < length P
+          → parent P p ≡ parent P q → rank R p < rank R q
+          → y < length P → z < length P → climb P j y ≡ p → climb P k z ≡ q → postNumber P R y < postNumber P R z
+      siblings p q y z j k ap lp aq lq same less ly lz ey ez =
+          let w : ℕ = parent P p in
+          let r : ℕ = rank R p in
+          let s : ℕ = rank R q in
+          let low : rank R q < children P (parent P p) = subst⁻¹ (λ (x : ℕ). rank R q < children P x) same (t .rank-low q aq lq) in
+          let cp : childAt P R (parent P p) (rank R p) ≡ p = childAt-only P R (tree-ranked t) p ap lp in
+          let cq : childAt P R (parent P p) (rank R q) ≡ q =
+          subst⁻¹ (λ (x : ℕ). childAt P R x (rank R q) ≡ q) same (childAt-only P R (tree-ranked t) q aq lq) in
+          let up : postNumber P R y ≤ postNumber P R p = subst (λ (x : ℕ). postNumber P R y ≤ postNumber P R x) ey (climb-between j y ly .1) in
+          let down : start P R q < postNumber P R z = subst (λ (x : ℕ). start P R x < postNumber P R z) ez (climb-between k z lz .0) in
+          let mid : postNumber P R p ≤ start P R q =
+          subst (λ (x : ℕ). postNumber P R x ≤ start P R q) cp
+          (subst (λ (x : ℕ). postNumber P R (childAt P R (parent P p) (rank R p)) ≤ start P R x) cq
+          (omega (
+            arith,
+            child-block (parent P p) (rank R p) (t .inside p lp) (omega arith),
+            start-child t (parent P p) (rank R q) (t .inside p lp) low,
+            sum-mono (λ (s : ℕ). size P R (childAt P R (parent P p) s)) (rank R p + 1) (rank R q) (omega arith),
+          ))) in
+          omega arith
+
+  -- the node at place j of the order is the one with number j + 1
+  pub number-at : (j : ℕ) → j < length P → (getD (order P R) j 0 < length P) × (postNumber P R (getD (order P R) j 0) ≡ j + 1)
+  unfolding postNumber
+  number-at j l = let p = at-place t j l in (p .0, omega (arith, p .1))

@@ -18,7 +18,9 @@
 --   postNumber P R v         == v's place in it, from 1
 --   firstNumber P R v        == the first post number in v's subtree, whose last is v's own
 --   large, checked           == the limits of a call on a table, and of the check
---   tableFault L ..          == refusals 1 to 7 at the limits L
+--   shapeFault L ..          == refusals 1 to 3 at the limits L
+--   treeFault P R            == refusals 4 to 7
+--   tableFault L ..          == both, in this order
 --   validity f               == the answer that says so
 use mathlib.Core.Bool.{Bool, true, false, cond, not, _&&_, _||_}
 use mathlib.Core.List.{List, [], _∷_, _++_}
@@ -128,16 +130,23 @@ unfoldable pub allLong : ℕ → List (List ℕ) → Bool
 allLong n [] = true
 allLong n (l ∷ ls) = eqb (length l) n && allLong n ls
 
--- long: the lists that are lent besides are n long. work: the length of the work list, whose contents don't matter
-unfoldable pub tableFault : Limits → List ℕ → List ℕ → Bool → ℕ → Option Refusal
-tableFault L P R long work =
+-- 1, 2 and 3, which leave the work list alone. long: the lists that are lent besides P and R are n long. work: the
+-- length of the work list, whose contents don't matter
+unfoldable pub shapeFault : Limits → List ℕ → List ℕ → Bool → ℕ → Option Refusal
+shapeFault L P R long work =
     refuse (eqb (length P) 0) 1 0
     orElse refuse (ltb (L .nodes) (length P)) (L .surplus) 0
     orElse refuse (not (eqb (length R) (length P) && (long && eqb work (4 * length P)))) 3 0
-    orElse refuse (not (eqb (parent P 0) 0 && eqb (rank R 0) 0)) 4 0
+
+unfoldable pub treeFault : List ℕ → List ℕ → Option Refusal
+treeFault P R =
+    refuse (not (eqb (parent P 0) 0 && eqb (rank R 0) 0)) 4 0
     orElse refuseLeast 5 (length P) (strayParent P)
     orElse refuseLeast 6 (length P) (badRank P R)
     orElse refuseLeast 7 (length P) (adrift P)
+
+unfoldable pub tableFault : Limits → List ℕ → List ℕ → Bool → ℕ → Option Refusal
+tableFault L P R long work = shapeFault L P R long work orElse treeFault P R
 
 unfoldable pub validity : Option Refusal → Validity
 validity none = Accepted

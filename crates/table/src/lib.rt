@@ -1,4 +1,17 @@
 // Tree tables: refusals 1 to 7, and post-order numbers.
+//
+// All calls share one work list of 4n numbers. While a table is tested, its first 2n numbers hold the first slot of
+// each node's children (at 0 to n), then how many nodes stand in each slot, and then marks (from n + 1 on). `number`
+// leaves the post numbers at 0, the first numbers of the subtrees at 2n and the post-order itself at 3n.
+ghost use mathlib.Core.Bool.{true};
+ghost use mathlib.Core.Path.{_≡_};
+ghost use Prim.Native.Nat.{ℕ, _+_, _*_, _^_, _≤_, _<_};
+ghost use lib.ListN.{length, getD, set};
+ghost use Rattle.laws.specs.Regions.{Only};
+ghost use Rattle.laws.specs.Search.{least};
+ghost use Rattle.table.specs.Children.{Ranked};
+ghost use Rattle.table.specs.Table.{climb, strayParent, badRank, adrift};
+ghost use Rattle.table.specs.Work.{Scratch, Zeroed, Tallied, Started, Seating, Occupied, marked, Marking, Reaching, Shaped, Structured, Validated, Ready};
 
 // What a call accepts: the most nodes with the number that refuses more, and the largest place with the number that
 // refuses one beyond it.
@@ -13,4 +26,249 @@ pub struct Limits {
 pub enum Validity {
     Accepted,
     Refused(u32, u32),
+}
+
+// The element at an index.
+pub fn get(w: &[u32], i: usize) -> usize
+    requires { ⌜ i < length (now w) ⌝ }
+    ensures { λ r. ⌜ (r ≡ getD (now (w .entry)) i 0) × (r < 2 ^ 32) ⌝ }
+{
+    w[i] as usize
+}
+
+// Stores a number at an index.
+pub fn put(w: &mut [u32], i: usize, x: usize)
+    requires { ⌜ (i < length (now w)) × (x < 2 ^ 32) ⌝ }
+    ensures { λ _. ⌜ now (w .exit) ≡ set (now (w .entry)) i x ⌝ }
+{
+    w[i] = x as u32;
+}
+
+// The smallest node with refusal 5, or n.
+fn stray_parent(parent: &[u32]) -> usize
+    requires { ⌜ 0 < length (now parent) ⌝ }
+    ensures { λ r. ⌜ r ≡ least (strayParent (now (parent .entry))) (length (now (parent .entry))) ⌝ }
+{
+    let n = parent.len();
+    let mut v = 1;
+    while v < n {
+        if n <= get(parent, v) {
+            return v;
+        }
+        v += 1;
+    }
+    n
+}
+
+// Zeroes the work list from a up to e.
+fn clear(work: &mut [u32], a: usize, e: usize)
+    requires { ⌜ (a ≤ e) × (e ≤ length (now work)) ⌝ }
+    ensures { λ _. ⌜ Zeroed a e (now (work .exit)) × Only a e (now (work .entry)) (now (work .exit)) ⌝ }
+{
+    let mut i = a;
+    while i < e {
+        put(work, i, 0);
+        i += 1;
+    }
+}
+
+// Counts the children of p at p + 1, for each node p.
+fn tally(parent: &[u32], work: &mut [u32])
+    requires { ⌜ Scratch (now parent) (now work) × Zeroed 0 (2 * length (now parent)) (now work) ⌝ }
+    ensures { λ _. ⌜ Tallied (now (parent .entry)) (now (work .exit)) × Only 0 (length (now (parent .entry)) + 1) (now (work .entry)) (now (work .exit)) ⌝ }
+{
+    let n = parent.len();
+    let mut v = 1;
+    while v < n {
+        let p = get(parent, v) + 1;
+        let k = get(work, p);
+        put(work, p, k + 1);
+        v += 1;
+    }
+}
+
+// Sums the tallies up: at p the number of children of all nodes before p.
+fn accumulate(parent: &[u32], work: &mut [u32])
+    requires { ⌜ Scratch (now parent) (now work) × Tallied (now parent) (now work) ⌝ }
+    ensures { λ _. ⌜ Started (now (parent .entry)) (now (work .exit)) × Only 0 (length (now (parent .entry)) + 1) (now (work .entry)) (now (work .exit)) ⌝ }
+{
+    let n = parent.len();
+    let mut p = 0;
+    while p < n {
+        let s = get(work, p);
+        let k = get(work, p + 1);
+        put(work, p + 1, s + k);
+        p += 1;
+    }
+}
+
+// The first slot of each node's children, and no slot taken.
+fn starts(parent: &[u32], work: &mut [u32])
+    requires { ⌜ Scratch (now parent) (now work) ⌝ }
+    ensures { λ _. ⌜ Started (now (parent .entry)) (now (work .exit)) × Zeroed (length (now (parent .entry)) + 1) (2 * length (now (parent .entry))) (now (work .exit)) × Only 0 (2 * length (now (parent .entry))) (now (work .entry)) (now (work .exit)) ⌝ }
+{
+    let n = parent.len();
+    clear(work, 0, 2 * n);
+    tally(parent, work);
+    accumulate(parent, work);
+}
+
+// Counts v in the slot of its rank, if its parent has so many children.
+fn seat(parent: &[u32], rank: &[u32], work: &mut [u32], v: usize)
+    requires { ⌜ Seating (now parent) (now rank) (now work) v × (v < length (now parent)) ⌝ }
+    ensures { λ _. ⌜ Seating (now (parent .entry)) (now (rank .entry)) (now (work .exit)) (v + 1) × Only (length (now (parent .entry)) + 1) (2 * length (now (parent .entry))) (now (work .entry)) (now (work .exit)) ⌝ }
+{
+    let n = parent.len();
+    let p = get(parent, v);
+    let r = get(rank, v);
+    let s = get(work, p) + r;
+    let e = get(work, p + 1);
+    if e <= s {
+        return;
+    }
+    let o = get(work, n + 1 + s);
+    put(work, n + 1 + s, o + 1);
+}
+
+// Counts the nodes in each slot.
+fn occupy(parent: &[u32], rank: &[u32], work: &mut [u32])
+    requires { ⌜ Scratch (now parent) (now work) × (length (now rank) ≡ length (now parent)) ⌝ }
+    requires { ⌜ Started (now parent) (now work) × Zeroed (length (now parent) + 1) (2 * length (now parent)) (now work) ⌝ }
+    ensures { λ _. ⌜ Occupied (now (parent .entry)) (now (rank .entry)) (now (work .exit)) × Only (length (now (parent .entry)) + 1) (2 * length (now (parent .entry))) (now (work .entry)) (now (work .exit)) ⌝ }
+{
+    let n = parent.len();
+    let mut v = 1;
+    while v < n {
+        seat(parent, rank, work, v);
+        v += 1;
+    }
+}
+
+// The smallest node with refusal 6, or n.
+fn bad_rank(parent: &[u32], rank: &[u32], work: &[u32]) -> usize
+    requires { ⌜ Scratch (now parent) (now work) × (length (now rank) ≡ length (now parent)) ⌝ }
+    requires { ⌜ Started (now parent) (now work) × Occupied (now parent) (now rank) (now work) ⌝ }
+    ensures { λ r. ⌜ r ≡ least (badRank (now (parent .entry)) (now (rank .entry))) (length (now (parent .entry))) ⌝ }
+{
+    let n = parent.len();
+    let mut v = 1;
+    while v < n {
+        let p = get(parent, v);
+        let r = get(rank, v);
+        let s = get(work, p) + r;
+        if get(work, p + 1) <= s {
+            return v;
+        }
+        if 1 < get(work, n + 1 + s) {
+            return v;
+        }
+        v += 1;
+    }
+    n
+}
+
+// How many steps lead from v up to a marked node: more than n where n steps do not.
+fn steps(parent: &[u32], work: &[u32], v: usize) -> usize
+    requires { ⌜ Scratch (now parent) (now work) × (v < length (now parent)) ⌝ }
+    ensures { λ r. ⌜ r ≡ least (λ k. marked (now (parent .entry)) (now (work .entry)) (climb (now (parent .entry)) k v)) (length (now (parent .entry)) + 1) ⌝ }
+{
+    let n = parent.len();
+    let mut u = v;
+    let mut k = 0;
+    while k <= n {
+        if 0 < get(work, n + u) {
+            return k;
+        }
+        u = get(parent, u);
+        k += 1;
+    }
+    k
+}
+
+// Marks the first k nodes on the way up from v, which leads to a marked one.
+fn mark(parent: &[u32], work: &mut [u32], v: usize, k: usize)
+    requires { ⌜ Reaching (now parent) (now work) v k ⌝ }
+    ensures { λ _. ⌜ Marking (now (parent .entry)) (now (work .exit)) × (marked (now (parent .entry)) (now (work .exit)) v ≡ true) ⌝ }
+    ensures { λ _. ⌜ Only (length (now (parent .entry)) + 1) (2 * length (now (parent .entry))) (now (work .entry)) (now (work .exit)) ⌝ }
+{
+    let n = parent.len();
+    let mut u = v;
+    let mut i = 0;
+    while i < k {
+        put(work, n + u, 1);
+        u = get(parent, u);
+        i += 1;
+    }
+}
+
+// The smallest node with refusal 7, or n.
+fn drifting(parent: &[u32], work: &mut [u32]) -> usize
+    requires { ⌜ Scratch (now parent) (now work) × Started (now parent) (now work) × Zeroed (length (now parent) + 1) (2 * length (now parent)) (now work) ⌝ }
+    ensures { λ r. ⌜ (r ≡ least (adrift (now (parent .entry))) (length (now (parent .entry)))) × Only (length (now (parent .entry)) + 1) (2 * length (now (parent .entry))) (now (work .entry)) (now (work .exit)) ⌝ }
+{
+    let n = parent.len();
+    let mut v = 1;
+    while v < n {
+        let k = steps(parent, work, v);
+        if n < k {
+            return v;
+        }
+        mark(parent, work, v, k);
+        v += 1;
+    }
+    n
+}
+
+// Refusals 5 to 7.
+fn structure(parent: &[u32], rank: &[u32], work: &mut [u32]) -> Validity
+    requires { ⌜ Shaped (now parent) (now rank) (now work) ⌝ }
+    ensures { λ r. ⌜ Structured (now (parent .entry)) (now (rank .entry)) (now (work .entry)) (now (work .exit)) r ⌝ }
+{
+    let n = parent.len();
+    let v = stray_parent(parent);
+    if v < n {
+        return Validity::Refused(5, v as u32);
+    }
+    starts(parent, work);
+    occupy(parent, rank, work);
+    let v = bad_rank(parent, rank, work);
+    if v < n {
+        return Validity::Refused(6, v as u32);
+    }
+    clear(work, n + 1, 2 * n);
+    let v = drifting(parent, work);
+    if v < n {
+        return Validity::Refused(7, v as u32);
+    }
+    Validity::Accepted
+}
+// Refusals 1 to 7 at the limits, where `long` says that the lists lent besides are as long as the parent list. Only the
+// first 2n numbers of the work list change, and none on a refusal before 4.
+pub fn validate(limits: Limits, parent: &[u32], rank: &[u32], long: bool, work: &mut [u32]) -> Validity
+    ensures { λ r. ⌜ Validated limits (now (parent .entry)) (now (rank .entry)) long (now (work .entry)) (now (work .exit)) r ⌝ }
+{
+    let n = parent.len();
+    let most = limits.nodes as usize;
+    if n == 0 {
+        return Validity::Refused(1, 0);
+    }
+    if most < n {
+        return Validity::Refused(limits.surplus, 0);
+    }
+    if rank.len() != n {
+        return Validity::Refused(3, 0);
+    }
+    if !long {
+        return Validity::Refused(3, 0);
+    }
+    if work.len() != 4 * n {
+        return Validity::Refused(3, 0);
+    }
+    if get(parent, 0) != 0 {
+        return Validity::Refused(4, 0);
+    }
+    if get(rank, 0) != 0 {
+        return Validity::Refused(4, 0);
+    }
+    structure(parent, rank, work)
 }

@@ -1,0 +1,65 @@
+-- Laws of refusals in order.
+use mathlib.Core.Bool.{Bool, true, false}
+use mathlib.Core.Option.{Option, none, some}
+use mathlib.Core.Path.{_≡_, refl, sym, ap, subst, _∙_}
+use Prim.Native.Nat.{ℕ, _≤_, _<_}
+use native.Mathlib.Omega.{arith}
+use lib.Dec.{ltb}
+use borrow.Author.Tests.{lt-ltb, le-ltb, ltb-false}
+use Rattle.laws.specs.Search.{least, Refusal, refuse, refuseLeast, _orElse_}
+use Rattle.laws.specs.SearchLaws.{least-none}
+use Rattle.laws.specs.Tests.{differ}
+
+abbrev pub refusal : ℕ → ℕ → Option Refusal
+refusal k v = some (record { number = k; node = v })
+
+isNone : Option Refusal → Bool
+isNone none = true
+isNone (some f) = false
+
+pub some-not-none : {f : Refusal} → some f ≡ none → ⊥
+unfolding isNone
+some-not-none e = differ (ap isNone e) refl
+
+------------------------------------------------------------------------
+-- One after the other
+
+pub orElse-first : (a b : Option Refusal) {f : Refusal} → a ≡ some f → a orElse b ≡ some f
+orElse-first none b e = absurd (some-not-none (sym e))
+orElse-first (some g) b e = e
+
+pub orElse-second : (a b : Option Refusal) → a ≡ none → a orElse b ≡ b
+orElse-second none b e = refl
+orElse-second (some g) b e = absurd (some-not-none e)
+
+pub orElse-none : (a b : Option Refusal) → a orElse b ≡ none → (a ≡ none) × (b ≡ none)
+orElse-none none b e = (refl, e)
+orElse-none (some g) b e = absurd (some-not-none e)
+
+------------------------------------------------------------------------
+-- A test
+
+pub refuse-yes : (b : Bool) (k v : ℕ) → b ≡ true → refuse b k v ≡ refusal k v
+refuse-yes true k v e = refl
+refuse-yes false k v e = absurd (differ e refl)
+
+pub refuse-no : (b : Bool) (k v : ℕ) → b ≡ false → refuse b k v ≡ none
+refuse-no true k v e = absurd (differ refl e)
+refuse-no false k v e = refl
+
+pub refuse-none : (b : Bool) (k v : ℕ) → refuse b k v ≡ none → b ≡ false
+refuse-none true k v e = absurd (some-not-none e)
+refuse-none false k v e = refl
+
+------------------------------------------------------------------------
+-- The least node that fails
+
+pub refuseLeast-yes : (k n : ℕ) (test : ℕ → Bool) (v : ℕ) → v ≡ least test n → v < n → refuseLeast k n test ≡ refusal k v
+refuseLeast-yes k n test v e l =
+    refuse-yes _ k (least test n) (lt-ltb (least test n) n (omega arith)) ∙ ap (refusal k) (sym e)
+
+pub refuseLeast-no : (k n : ℕ) (test : ℕ → Bool) (v : ℕ) → v ≡ least test n → n ≤ v → refuseLeast k n test ≡ none
+refuseLeast-no k n test v e l = refuse-no _ k (least test n) (le-ltb (least test n) n (omega arith))
+
+pub refuseLeast-none : (k n : ℕ) (test : ℕ → Bool) → refuseLeast k n test ≡ none → (v : ℕ) → v < n → test v ≡ false
+refuseLeast-none k n test e = least-none test n (ltb-false (least test n) n (refuse-none _ k (least test n) e))

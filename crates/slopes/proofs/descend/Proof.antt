@@ -1,0 +1,86 @@
+-- `slopes::descend` meets its contract. The loop's invariant is a walk towards the position: as many turns are left as
+-- bits of the position above the zeros that end it. The measure is the number of turns left.
+use Prim.Native.Nat.{_-_}
+use native.Mathlib.Omega.{arith}
+use mathlib.Core.Path.{_∙_}
+use lib.Count.{trailingZeros}
+use Rattle.slopes.specs.Descent.{Ends, trailing-ends, ends-below}
+use Rattle.slopes.proofs.Walk.{Walk, walk-start, walk-fits, walk-right, walk-left, walk-end}
+use Rattle.slopes.proofs.descend.Statement.{statement}
+use Rattle.slopes.proofs.descend.Tie as tie
+
+abbrev Inv-loop : tie.InvT-loop
+Inv-loop k j level low₀ high₀ turns₀ low high turns = Walk k (trailingZeros 32 j) j low high turns
+
+abbrev μ-loop : tie.MeasureT-loop
+μ-loop k j level low₀ high₀ turns₀ low high turns = level - turns
+
+ends : (c : tie.Start Inv-loop μ-loop) → Ends (c .args .j) (trailingZeros 32 (c .args .j))
+ends c = trailing-ends 32 (c .args .j) (c .pre .1) (c .fits .j .fits)
+
+sub-level : tie.Need-sub-level Inv-loop μ-loop
+sub-level c = omega (arith, ends-below _ _ _ (ends c) (c .pre .2))
+
+loop-holds : tie.Need-loop-holds Inv-loop μ-loop
+loop-holds c = walk-start (c .args .k) _ (c .args .j) (c .pre .2) (ends c)
+
+add-loop : tie.Need-add-loop Inv-loop μ-loop
+add-loop c = omega (arith, c .loop .inv .within)
+
+add-turns : tie.Need-add-turns Inv-loop μ-loop
+add-turns c = omega (arith, c .before .loop .inv .within)
+
+mediant-requires : tie.Need-mediant-requires Inv-loop μ-loop
+mediant-requires c κs = walk-fits (c .before .loop .inv) (c .before .before .pre .0)
+
+sub-if1 : tie.Need-sub-if1 Inv-loop μ-loop
+sub-if1 c = omega (arith, c .before .before .loop .inv .within)
+
+shr-if1 : tie.Need-shr-if1 Inv-loop μ-loop
+shr-if1 c = omega arith
+
+loop-less : tie.Need-loop-less Inv-loop μ-loop
+loop-less c = omega arith
+
+loop-again : tie.Need-loop-again Inv-loop μ-loop
+loop-again c =
+    let middle = c .before in
+    let turn = middle .before in
+    rw (middle .mediant .ensures) (walk-right (turn .before .loop .inv) (turn .loop-test .taken) (c .if1 .taken))
+
+loop-less-2 : tie.Need-loop-less-2 Inv-loop μ-loop
+loop-less-2 c = omega arith
+
+loop-again-2 : tie.Need-loop-again-2 Inv-loop μ-loop
+loop-again-2 c =
+    let middle = c .before in
+    let turn = middle .before in
+    rw (middle .mediant .ensures) (walk-left (turn .before .loop .inv) (turn .loop-test .taken) (c .if1 .left))
+
+mediant-requires-2 : tie.Need-mediant-requires-2 Inv-loop μ-loop
+mediant-requires-2 c κs = walk-fits (c .before .loop .inv) (c .before .before .pre .0)
+
+returns : tie.Need-returns Inv-loop μ-loop
+returns c =
+    let left = c .before in
+    c .mediant2 .ensures ∙ walk-end (left .before .loop .inv) (left .loop-test .left)
+
+pub descend-spec : {M : Type 1} → statement M
+descend-spec =
+    tie.close
+    (tie.spec
+    Inv-loop
+    μ-loop
+    sub-level
+    loop-holds
+    add-loop
+    add-turns
+    mediant-requires
+    sub-if1
+    shr-if1
+    loop-less
+    loop-again
+    loop-less-2
+    loop-again-2
+    mediant-requires-2
+    returns)

@@ -1,0 +1,63 @@
+-- `slopes::slope_at` meets its contract: the steep slope as it is defined, the balanced one by a descent in as many
+-- levels as n nodes need.
+use borrow.Author.Needs.{needs}
+use mathlib.Core.Path.{sym, ap, _∙_}
+use Prim.Native.Nat.{ℕ}
+use native.Mathlib.Nat.{lt-of-lt-of-le}
+use Rattle.slopes.specs.declared.Rule.{Rule}
+use Rattle.slopes.specs.Slopes.{fractionAt, slopeAt}
+use Rattle.slopes.specs.SlopeLaws.{levelsFor-least, levelsFor-enough}
+use Rattle.slopes.proofs.slope_at.Statement.{statement}
+use Rattle.slopes.proofs.slope_at.Tie as tie
+
+enum-told : tie.Need-enum-told
+enum-told c = search needs
+
+cast-t5 : tie.Need-cast-t5
+cast-t5 c = search needs
+
+enum-told-2 : tie.Need-enum-told-2
+enum-told-2 c = search needs
+
+levels-for-requires : tie.Need-levels-for-requires
+levels-for-requires c κs = search needs
+
+cast-descend : tie.Need-cast-descend
+cast-descend c = search needs
+
+descend-requires : tie.Need-descend-requires
+descend-requires c κs =
+    let start = c .before .before .before in
+    let n = start .args .n in
+    rw (c .levels-for .ensures)
+    (levelsFor-least n 32 (start .pre .2), start .pre .0, lt-of-lt-of-le (start .pre .1) (levelsFor-enough n))
+
+returns : tie.Need-returns
+unfolding slopeAt
+returns c =
+    let start = c .before .before in
+    sym (ap (λ (rule : Rule). slopeAt rule (start .args .n) (start .args .j)) (c .enum-told .given .1))
+
+returns-2 : tie.Need-returns-2
+unfolding slopeAt
+returns-2 c =
+    let counted = c .before in
+    let told = counted .before in
+    let start = told .before .before in
+    let j = start .args .j in
+    c .descend .ensures
+    ∙ ap (λ (k : ℕ). fractionAt k j) (counted .levels-for .ensures)
+    ∙ sym (ap (λ (rule : Rule). slopeAt rule (start .args .n) j) (told .enum-told2 .given .1))
+
+pub slope-at-spec : {M : Type 1} → statement M
+slope-at-spec =
+    tie.close
+    (tie.spec
+    enum-told
+    cast-t5
+    enum-told-2
+    levels-for-requires
+    cast-descend
+    descend-requires
+    returns
+    returns-2)

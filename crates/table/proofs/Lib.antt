@@ -1,0 +1,4 @@
+pub mod FirstSlots
+pub mod Seats
+pub mod Marks
+pub mod Validation

@@ -1,0 +1,131 @@
+-- What refusals leave: a table that none of 1 to 7 refuses is a tree.
+--
+--   Shape L ..       == what refusals 1 to 3 leave
+--   Accepting L ..   == what refusals 1 to 7 leave
+use mathlib.Core.Bool.{Bool, true, false, not, _&&_}
+use mathlib.Core.List.{List}
+use mathlib.Core.Option.{Option, none, some}
+use mathlib.Core.Path.{_≡_, refl, sym, ap, ap₂, _∙_}
+use Prim.Native.Nat.{ℕ, _*_, _≤_, _<_}
+use native.Mathlib.Omega.{arith}
+use lib.Dec.{ltb, eqb}
+use lib.ListN.{length, getD}
+use borrow.Author.Tests.{eqb-true, eqb-false, ltb-false, not-false, le-ltb, eq-eqb, ne-eqb}
+use Rattle.laws.specs.Refusals.{refusal, orElse-second, orElse-none, refuse-no, refuse-none, refuseLeast-none}
+use Rattle.laws.specs.Search.{count, Refusal, refuse, refuseLeast, _orElse_}
+use Rattle.laws.specs.SearchLaws.{count-two}
+use Rattle.laws.specs.Tests.{by-eq, by-lt, differ, both, both-is}
+use Rattle.table.specs.Ancestry.{climb-root}
+use Rattle.table.specs.Children.{Child, childAt-test}
+use Rattle.table.specs.declared.Limits.{Limits}
+use Rattle.table.specs.declared.Validity.{Validity}
+use Rattle.table.specs.declared.Validity.the-variants.{Accepted, Refused}
+use Rattle.table.specs.Table.{parent, rank, climb, children, strayParent, badRank, adrift, shapeFault, treeFault, tableFault, validity}
+use Rattle.table.specs.TableLaws.{Tree, stray-yes, bad-high, bad-shared, adrift-yes}
+
+------------------------------------------------------------------------
+-- The shape
+
+pub record Shape (L : Limits) (P R : List ℕ) (long : Bool) (work : ℕ) : Type 0 where
+  pub some : 0 < length P
+  pub few : length P ≤ L .nodes
+  pub ranks : length R ≡ length P
+  pub others : long ≡ true
+  pub work-long : work ≡ 4 * length P
+
+pub shaped : (L : Limits) (P R : List ℕ) (long : Bool) (work : ℕ) → shapeFault L P R long work ≡ none
+    → Shape L P R long work
+unfolding shapeFault
+shaped L P R long work e =
+    let a = orElse-none _ _ e in
+    let b = orElse-none _ _ (a .1) in
+    let lengths = not-false _ (refuse-none _ 3 0 (b .1)) in
+    let c = both _ _ lengths in
+    let d = both _ _ (c .1) in
+    let n : length P ≡ 0 → ⊥ = eqb-false _ _ (refuse-none _ 1 0 (a .0)) in
+    record {
+      some = omega arith;
+      few = ltb-false _ _ (refuse-none _ (L .surplus) 0 (b .0));
+      ranks = eqb-true _ _ (c .0);
+      others = d .0;
+      work-long = eqb-true _ _ (d .1);
+    }
+
+pub shape-fits : {L : Limits} {P R : List ℕ} {long : Bool} {work : ℕ} → Shape L P R long work
+    → shapeFault L P R long work ≡ none
+unfolding shapeFault
+shape-fits {L} {P} {R} {long} {work} s =
+    orElse-second _ _ (refuse-no _ 1 0 (ne-eqb (length P) 0 (λ e. omega (arith, s .some))))
+    ∙ orElse-second _ _ (refuse-no _ (L .surplus) 0 (le-ltb (L .nodes) (length P) (s .few)))
+    ∙ refuse-no _ 3 0 (ap not (both-is (eq-eqb (length R) (length P) (s .ranks))
+    (both-is (s .others) (eq-eqb work (4 * length P) (s .work-long)))))
+
+------------------------------------------------------------------------
+-- The tree
+
+pub tree-of : (P R : List ℕ) → 0 < length P → length R ≡ length P → treeFault P R ≡ none → Tree P R
+unfolding treeFault
+tree-of P R full long e =
+    let a = orElse-none _ _ e in
+    let b = orElse-none _ _ (a .1) in
+    let c = orElse-none _ _ (b .1) in
+    let root = both (eqb (parent P 0) 0) (eqb (rank R 0) 0) (not-false _ (refuse-none _ 4 0 (a .0))) in
+    record {
+      some = full;
+      long = long;
+      root = eqb-true _ _ (root .0);
+      inside = λ v l. inside (eqb-true _ _ (root .0)) (refuseLeast-none 5 (length P) (strayParent P) (b .0)) v l;
+      rank-low = λ v u l. by-lt (rank R v) (children P (parent P v)) (λ h. h)
+          (λ h. absurd (differ (bad-high P R v u h) (refuseLeast-none 6 (length P) (badRank P R) (c .0) v l)));
+      ranks-differ = λ v w u l m p r. differ
+          (bad-shared P R v u (count-two _ (length P) v w l m
+          (childAt-test P R (parent P v) (rank R v) v (record { above = u; up = refl }) refl)
+          (childAt-test P R (parent P v) (rank R v) w (record { above = omega arith; up = sym p }) (sym r))))
+          (refuseLeast-none 6 (length P) (badRank P R) (c .0) v (omega arith));
+      leads-home = λ v l. home (eqb-true _ _ (root .0)) (refuseLeast-none 7 (length P) (adrift P) (c .1)) v l;
+    }
+  where
+    inside : parent P 0 ≡ 0 → ((v : ℕ) → v < length P → strayParent P v ≡ false)
+        → (v : ℕ) → v < length P → parent P v < length P
+    inside root fine v l =
+        by-lt (parent P v) (length P) (λ h. h)
+        (λ h.
+        by-lt 0 v (λ u. absurd (differ (stray-yes P v u h) (fine v l)))
+        (λ u. let z : v ≡ 0 = omega arith in absurd (omega (arith, ap (parent P) z, root))))
+
+    home : parent P 0 ≡ 0 → ((v : ℕ) → v < length P → adrift P v ≡ false)
+        → (v : ℕ) → v < length P → climb P (length P) v ≡ 0
+    home root fine v l =
+        by-eq (climb P (length P) v) 0 (λ e. e)
+        (λ ne.
+        by-lt 0 v (λ u. absurd (differ (adrift-yes P v u ne) (fine v l)))
+        (λ u. let z : v ≡ 0 = omega arith in absurd (ne (ap (climb P (length P)) z ∙ climb-root P root (length P)))))
+
+-- what an accepted call has
+pub record Accepting (L : Limits) (P R : List ℕ) (long : Bool) (work : ℕ) : Type 0 where
+  pub shape : Shape L P R long work
+  pub tree : Tree P R
+
+pub accepting : (L : Limits) (P R : List ℕ) (long : Bool) (work : ℕ) → tableFault L P R long work ≡ none
+    → Accepting L P R long work
+unfolding tableFault
+accepting L P R long work e =
+    let a = orElse-none (shapeFault L P R long work) (treeFault P R) e in
+    let s = shaped L P R long work (a .0) in
+    record { shape = s; tree = tree-of P R (s .some) (s .ranks) (a .1) }
+
+------------------------------------------------------------------------
+-- The answer
+
+pub validity-accepted : (f : Option Refusal) → validity f ≡ Accepted → f ≡ none
+unfolding validity
+validity-accepted none e = refl
+validity-accepted (some r) e = absurd (let z : _≡_ {A = ℕ} 0 1 = cc in omega arith)
+
+pub validity-refused : (f : Option Refusal) (k v : ℕ) → validity f ≡ Refused k v → f ≡ refusal k v
+unfolding validity
+validity-refused none k v e = absurd (let z : _≡_ {A = ℕ} 0 1 = cc in omega arith)
+validity-refused (some r) k v e =
+    let a : r .number ≡ k = cc in
+    let b : r .node ≡ v = cc in
+    ap₂ refusal a b

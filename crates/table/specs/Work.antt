@@ -1,0 +1,109 @@
+-- What the work list holds while a table is tested and numbered. n is the length of P.
+--
+--   Scratch P W        == P's parents are nodes, and W has room for two numbers a node
+--   Zeroed a e W       == W is 0 from a up to e
+--   Tallied P W        == at 1 to n: the number of children of each node, after a 0
+--   Started P W        == at 0 to n: the first slot of each node's children, and the number of all slots
+--   inSlot P R s w     == w has a slot, and it is s
+--   Seating P R W v    == from n + 1 on: how many of the nodes below v stand in each slot
+--   Occupied P R W     == from n + 1 on: how many nodes share each node's slot
+--   Slotted P R W      == from n + 1 on: the node in each slot
+--   marked P W v       == the mark of v, at n + v, is set; that of node 0 is the number of all slots
+--   Marking P W        == node 0 is marked, and whoever is marked leads to node 0
+--   Reaching P W v k   == a climb of k steps from v comes to a marked node, and no shorter one does
+use mathlib.Core.Bool.{Bool, true, false, _&&_}
+use mathlib.Core.List.{List}
+use mathlib.Core.Option.{some}
+use mathlib.Core.Path.{_≡_}
+use Prim.Native.Nat.{ℕ, _+_, _*_, _^_, _≤_, _<_}
+use lib.Dec.{ltb, eqb}
+use lib.ListN.{length, getD}
+use Rattle.laws.specs.Regions.{Only}
+use Rattle.laws.specs.Search.{count, Refusal}
+use Rattle.laws.specs.Sums.{sum}
+use Rattle.table.specs.Children.{Nodes, slot}
+use Rattle.table.specs.declared.Limits.{Limits}
+use Rattle.table.specs.declared.Validity.{Validity}
+use Rattle.table.specs.declared.Validity.the-variants.{Accepted}
+use Rattle.table.specs.Table.{parent, rank, climb, children, isChildAt, shapeFault, treeFault, tableFault, validity}
+use Rattle.table.specs.TableLaws.{Tree}
+
+pub record Scratch (P W : List ℕ) : Type 0 where
+  pub nodes : Nodes P
+  pub few : length P < 2 ^ 32
+  pub room : 2 * length P ≤ length W
+
+pub record Zeroed (a e : ℕ) (W : List ℕ) : Type 0 where
+  pub at : (k : ℕ) → a ≤ k → k < e → getD W k 0 ≡ 0
+
+pub record Tallied (P W : List ℕ) : Type 0 where
+  pub none : getD W 0 0 ≡ 0
+  pub at : (p : ℕ) → p < length P → getD W (p + 1) 0 ≡ children P p
+
+pub record Started (P W : List ℕ) : Type 0 where
+  pub at : (p : ℕ) → p ≤ length P → getD W p 0 ≡ sum (children P) p
+
+pub record Occupied (P R W : List ℕ) : Type 0 where
+  pub at : (v : ℕ) → 0 < v → v < length P → rank R v < children P (parent P v)
+      → getD W (length P + 1 + slot P R v) 0 ≡ count (isChildAt P R (parent P v) (rank R v)) (length P)
+
+pub record Slotted (P R W : List ℕ) : Type 0 where
+  pub at : (v : ℕ) → 0 < v → v < length P → getD W (length P + 1 + slot P R v) 0 ≡ v
+
+-- 0 < w, w's rank is below its parent's number of children, and s is its slot
+unfoldable pub inSlot : List ℕ → List ℕ → ℕ → ℕ → Bool
+inSlot P R s w = ltb 0 w && (ltb (rank R w) (children P (parent P w)) && eqb (slot P R w) s)
+
+pub record Seating (P R W : List ℕ) (v : ℕ) : Type 0 where
+  pub scratch : Scratch P W
+  pub long : length R ≡ length P
+  pub started : Started P W
+  pub from : 1 ≤ v
+  pub at : (s : ℕ) → s + 1 < length P → getD W (length P + 1 + s) 0 ≡ count (inSlot P R s) v
+
+unfoldable pub marked : List ℕ → List ℕ → ℕ → Bool
+marked P W v = ltb 0 (getD W (length P + v) 0)
+
+-- with only node 0 there is nothing to mark
+pub record Marking (P W : List ℕ) : Type 0 where
+  pub root : 1 < length P → marked P W 0 ≡ true
+  pub leads : (v : ℕ) → v < length P → marked P W v ≡ true → (k : ℕ) × (climb P k v ≡ 0)
+
+-- a climb of k steps from v reaches a marked node, and none before
+pub record Reaching (P W : List ℕ) (v k : ℕ) : Type 0 where
+  pub scratch : Scratch P W
+  pub marking : Marking P W
+  pub above : 0 < v
+  pub inside : v < length P
+  pub steps : k ≤ length P
+  pub here : marked P W (climb P k v) ≡ true
+  pub before : (i : ℕ) → i < k → marked P W (climb P i v) ≡ false
+
+------------------------------------------------------------------------
+-- What `validate` says and leaves, and what `number` needs
+
+pub record Validated (L : Limits) (P R : List ℕ) (long : Bool) (W X : List ℕ) (r : Validity) : Type 0 where
+  pub answer : r ≡ validity (tableFault L P R long (length W))
+  pub spared : (f : Refusal) → shapeFault L P R long (length W) ≡ some f → X ≡ W
+  pub kept : Only 0 (2 * length P) W X
+  pub started : r ≡ Accepted → Started P X
+
+-- what refusals 1 to 4 leave to `structure`, and what it says
+pub record Shaped (P R W : List ℕ) : Type 0 where
+  pub some : 0 < length P
+  pub few : length P < 2 ^ 32
+  pub ranks : length R ≡ length P
+  pub long : length W ≡ 4 * length P
+  pub root-parent : parent P 0 ≡ 0
+  pub root-rank : rank R 0 ≡ 0
+
+pub record Structured (P R W X : List ℕ) (r : Validity) : Type 0 where
+  pub answer : r ≡ validity (treeFault P R)
+  pub kept : Only 0 (2 * length P) W X
+  pub started : r ≡ Accepted → Started P X
+
+pub record Ready (P R W : List ℕ) : Type 0 where
+  pub tree : Tree P R
+  pub few : length P < 2 ^ 32
+  pub long : length W ≡ 4 * length P
+  pub started : Started P W
