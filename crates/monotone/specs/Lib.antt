@@ -1,7 +1,6 @@
 pub mod Monotone
 pub mod MonotoneLaws
 pub mod Plane
-pub mod Ancestry
-pub mod Paths
+pub mod PathEdges
 pub mod Cones
 pub mod Rows

@@ -1,9 +1,6 @@
--- Monotone drawings (document 01, "Direction", "Check", "Lists of calls"; refusals 14 and 15).
+-- Monotone drawings (document 01, "Check"; refusals 14 and 15).
 --
---   step c a b                == the difference of one coordinate from node a to node b, end minus start
---   Rises x y d e a b         == the edge walked from node a to node b rises along (d, e)
---   PathRises P x y d e u v   == so does every edge of the tree path from u to v: up to the lowest common ancestor, then down
---   HasDirection P x y u v    == some whole numbers d and e, negative ones allowed, make it so
+--   HasDirection P x y u v    == some whole numbers d and e, negative ones allowed, make every edge of the tree path rise
 --   beyond L x y v            == refusal 15: a place of v is beyond the limit
 --   checkFault L ..           == refusals 1, 14, 3 to 7, 15 at the limits L
 --   Before a b u v            == the pair (a, b) comes before (u, v)
@@ -16,29 +13,19 @@ use mathlib.Core.List.{List, [], _∷_}
 use mathlib.Core.Logic.{_⊎_}
 use mathlib.Core.Option.{Option, none, some}
 use mathlib.Core.Path.{_≡_}
-use Prim.Native.Nat.{ℕ, suc, _<_}
+use Prim.Native.Nat.{ℕ, _<_}
 use lib.Dec.{ltb}
-use lib.IntN.{ℤ, pos, _+ℤ_, _-ℤ_, _*ℤ_}
+use lib.IntN.{ℤ}
 use lib.ListN.{length, getD}
-use lib.Signed.{_<ℤ_}
 use Rattle.laws.specs.Search.{Refusal, refuseLeast, _orElse_}
-use Rattle.table.specs.Table.{climb, rise, allLong, tableFault}
+use Rattle.table.specs.Paths.{PathRises}
+use Rattle.table.specs.Table.{allLong, tableFault}
 use Rattle.table.specs.declared.Limits.{Limits}
 use Rattle.monotone.specs.declared.Verdict.{Verdict}
 use Rattle.monotone.specs.declared.Verdict.the-variants.{Monotone, Turns, Refused}
 
 ------------------------------------------------------------------------
--- Paths that rise
-
-abbrev pub step : List ℕ → ℕ → ℕ → ℤ
-step c a b = pos (getD c b 0) -ℤ pos (getD c a 0)
-
-pub record Rises (x y : List ℕ) (d e : ℤ) (a b : ℕ) : Type 0 where
-  pub above-0 : pos 0 <ℤ (d *ℤ step x a b +ℤ e *ℤ step y a b)
-
-pub record PathRises (P x y : List ℕ) (d e : ℤ) (u v : ℕ) : Type 0 where
-  pub going-up : (i : ℕ) → i < rise P u v → Rises x y d e (climb P i u) (climb P (suc i) u)
-  pub going-down : (j : ℕ) → j < rise P v u → Rises x y d e (climb P (suc j) v) (climb P j v)
+-- Directions
 
 pub record HasDirection (P x y : List ℕ) (u v : ℕ) : Type 0 where
   pub d : ℤ

@@ -16,7 +16,8 @@ use Rattle.laws.specs.Tests.{by-lt, by-eq}
 use Rattle.table.specs.declared.Limits.{Limits}
 use Rattle.monotone.specs.declared.Verdict.{Verdict}
 use Rattle.monotone.specs.declared.Verdict.the-variants.{Monotone, Turns, Refused}
-use Rattle.monotone.specs.Monotone.{step, Rises, HasDirection, Before, checkFault, Says}
+use Rattle.table.specs.Paths.{step, Rises}
+use Rattle.monotone.specs.Monotone.{ Before, checkFault, Says}
 
 ------------------------------------------------------------------------
 -- Edges

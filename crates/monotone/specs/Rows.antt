@@ -2,7 +2,6 @@
 -- path is not known. What the contracts of the loops cite.
 --
 --   Ready P W           == P is a tree, and W has its edges
---   Cleared n W         == no cone is known
 --   TurnedPart P u ..   == the numbers at `at` with those of the edges from u to the root turned round
 --   Turned P u W X      == X is W with the edges from u to the root turned round
 --   Said P edge u k v   == k is the cone of the path from u to v
@@ -24,16 +23,13 @@ use Rattle.monotone.specs.declared.Verdict.{Verdict}
 use Rattle.monotone.specs.declared.Verdict.the-variants.{Monotone, Turns, Refused}
 use Rattle.monotone.specs.Monotone.{AllDirected, FirstTurn}
 use Rattle.monotone.specs.Plane.{Vec}
-use Rattle.monotone.specs.Paths.{OnPath}
+use Rattle.monotone.specs.PathEdges.{OnPath}
 use Rattle.monotone.specs.Cones.{edgeAt, Edges, Holds, Grown}
 
 pub record Ready (P W : List ℕ) : Type 0 where
   pub ranks : List ℕ
   pub tree : Tree P ranks
   pub edges : Edges (length P) W
-
-abbrev pub Cleared : ℕ → List ℕ → Type 0
-Cleared n W = (v : ℕ) → v < n → getD W v 0 ≡ 0
 
 ------------------------------------------------------------------------
 -- Edges walked away from u

@@ -1,12 +1,16 @@
 // Whether a given drawing of a tree is monotone.
 ghost use mathlib.Core.Path.{_≡_};
-ghost use Prim.Native.Nat.{ℕ, _+_, _*_, _≤_, _<_, _^_};
+ghost use Prim.Native.Nat.{ℕ, _+_, _-_, _*_, _≤_, _<_};
 ghost use lib.IntN.{pos, _-ℤ_};
 ghost use lib.ListN.{length, getD, set};
 ghost use Rattle.monotone.specs.Plane.{cross, dot};
 ghost use Rattle.laws.specs.Regions.{Only};
-ghost use Rattle.monotone.specs.Rows.{Ready, Cleared, Turned};
-ghost use Rattle.monotone.specs.Cones.{vec, Small, Near, Moved, partAt, edgeAt, Edges, Alone, Formed, Grown};
+ghost use Rattle.monotone.specs.Rows.{Ready, Turned};
+ghost use Rattle.monotone.specs.Cones.{vec, Small, Near, Moved, partAt, edgeAt, Part, Edges, Alone, Formed, Grown};
+
+use table::clear;
+use table::get;
+use table::put;
 
 // What the check answers: every pair has a direction, the first pair that has none, or a refusal's number and node.
 pub enum Verdict {
@@ -28,22 +32,6 @@ enum Move {
     High,
     Low,
     Never,
-}
-
-// The element at an index, as a usize.
-fn get(w: &[u32], i: usize) -> usize
-    requires { ⌜ i < length (now w) ⌝ }
-    ensures { λ r. ⌜ (r ≡ getD (now (w .entry)) i 0) × (r < 2 ^ 32) ⌝ }
-{
-    w[i] as usize
-}
-
-// Stores a usize that fits a u32.
-fn put(w: &mut [u32], i: usize, x: usize)
-    requires { ⌜ (i < length (now w)) × (x < 2 ^ 32) ⌝ }
-    ensures { λ _. ⌜ now (w .exit) ≡ set (now (w .entry)) i x ⌝ }
-{
-    w[i] = x as u32;
 }
 
 fn cross_product(a: Vector, b: Vector) -> i64
@@ -153,16 +141,13 @@ fn grow(work: &[u32], n: usize, cone: usize, z: usize) -> usize
     }
 }
 
-// Forgets every cone.
-fn clear(work: &mut [u32], n: usize)
-    requires { ⌜ n ≤ length (now work) ⌝ }
-    ensures { λ _. ⌜ Cleared n (now (work .exit)) × Only 0 n (now (work .entry)) (now (work .exit)) ⌝ }
+// Turns a part of a vector round.
+fn flip(work: &mut [u32], i: usize)
+    requires { ⌜ (i < length (now work)) × Part (getD (now work) i 0) ⌝ }
+    ensures { λ _. ⌜ now (work .exit) ≡ set (now (work .entry)) i (4294967296 - getD (now (work .entry)) i 0) ⌝ }
 {
-    let mut v = 0;
-    while v < n {
-        put(work, v, 0);
-        v += 1;
-    }
+    let number = get(work, i);
+    put(work, i, 4294967296 - number);
 }
 
 // Turns the edges from u up to the root round, so that all are walked away from u; and back again.
@@ -173,10 +158,8 @@ fn turn(parent: &[u32], work: &mut [u32], u: usize)
     let n = parent.len();
     let mut z = u;
     while 0 < z {
-        let across = get(work, n + z);
-        put(work, n + z, 4294967296 - across);
-        let up = get(work, 2 * n + z);
-        put(work, 2 * n + z, 4294967296 - up);
+        flip(work, n + z);
+        flip(work, 2 * n + z);
         z = get(parent, z);
     }
 }
