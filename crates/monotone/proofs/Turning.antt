@@ -46,6 +46,13 @@ module _ {P R : List ℕ} (T : Tree P R) {u z at : ℕ} {W X : List ℕ} (some :
 ------------------------------------------------------------------------
 -- Both parts
 
+-- no other node is above the root
+pub root-below : {P R : List ℕ} → Tree P R → (y : ℕ) → 0 < y → under P y 0 ≡ false
+root-below {P} T y p = false-of (λ s.
+    let steps : (k : ℕ) × (k ≤ length P) × (climb P k 0 ≡ y) = under-steps P y 0 s in
+    let e : y ≡ 0 = sym (steps .2) ∙ climb-root P (T .root) (steps .0) in
+    omega arith)
+
 pub record Turning (P : List ℕ) (u z : ℕ) (W X : List ℕ) : Type 0 where
   pub inside : z < length P
   pub above : under P z u ≡ true
@@ -134,15 +141,8 @@ module _ {P R : List ℕ} (T : Tree P R) {u : ℕ} (l : u < length P) {W : List 
   pub turning-end : {z : ℕ} {X : List ℕ} → z ≤ 0 → Turning P u z W X → Turned P u W X
   turning-end {z} {X} h t = record { across = part-end (t .across); up = part-end (t .up); only = t .only }
     where
-      root : z ≡ 0
-      root = omega arith
-
-      -- only the root is above the root
       below : (y : ℕ) → 0 < y → under P y z ≡ false
-      below y p = false-of (λ s.
-          let steps : (k : ℕ) × (k ≤ length P) × (climb P k 0 ≡ y) = under-steps P y 0 (subst (λ (i : ℕ). under P y i ≡ true) root s) in
-          let e : y ≡ 0 = sym (steps .2) ∙ climb-root P (T .root) (steps .0) in
-          omega arith)
+      below y p = subst⁻¹ (λ (i : ℕ). under P y i ≡ false) (let e : z ≡ 0 = omega arith in e) (root-below T y p)
 
       part-end : {at : ℕ} → TurningPart P u z at W X → TurnedPart P u at W X
       part-end p = record {

@@ -5,7 +5,9 @@
 --   TurnedPart P u ..   == the numbers at `at` with those of the edges from u to the root turned round
 --   Turned P u W X      == X is W with the edges from u to the root turned round
 --   Said P edge u k v   == k is the cone of the path from u to v
---   Row P edge u W      == every known cone is that of the path from u, and that of u and its ancestors is known
+--   Told P edge u W     == every known cone is that of the path from u
+--   Row P edge u W      == so it is, and those of u and its ancestors are known
+--   Reached P W v       == v's cone is known, or its parent's is
 --   Visited P W v X     == X is W with v's cone known, from its parent's
 --   Ordered P W         == the last region is an order in which children come before their parents
 --   Coned P u W X       == X is W with every cone known
@@ -24,7 +26,7 @@ use Rattle.monotone.specs.declared.Verdict.the-variants.{Monotone, Turns
 use Rattle.monotone.specs.Monotone.{AllDirected, FirstTurn}
 use Rattle.monotone.specs.Plane.{Vec}
 use Rattle.monotone.specs.PathEdges.{OnPath}
-use Rattle.monotone.specs.Cones.{edgeAt, Edges, Holds, Grown}
+use Rattle.monotone.specs.Cones.{edgeAt, Edges, Holds, Formed, Grown}
 
 pub record Ready (P W : List ℕ) : Type 0 where
   pub ranks : List ℕ
@@ -51,9 +53,17 @@ pub record Said (P : List ℕ) (edge : ℕ → Vec) (u k v : ℕ) : Type 0 where
   pub path : OnPath P edge u v way
   pub holds : Holds (length P) edge k way
 
-pub record Row (P : List ℕ) (edge : ℕ → Vec) (u : ℕ) (W : List ℕ) : Type 0 where
+pub record Told (P : List ℕ) (edge : ℕ → Vec) (u : ℕ) (W : List ℕ) : Type 0 where
   pub said : (v : ℕ) → v < length P → (getD W v 0 ≡ 0 → ⊥) → Said P edge u (getD W v 0) v
+
+pub record Row (P : List ℕ) (edge : ℕ → Vec) (u : ℕ) (W : List ℕ) : Type 0 where
+  pub told : Told P edge u W
   pub above : (v : ℕ) → v < length P → under P v u ≡ true → getD W v 0 ≡ 0 → ⊥
+
+pub record Reached (P W : List ℕ) (v : ℕ) : Type 0 where
+  pub inside : v < length P
+  pub some : getD W v 0 ≡ 0 → 0 < v
+  pub formed : getD W v 0 ≡ 0 → Formed (length P) (getD W (parent P v) 0)
 
 pub data Visited (P W : List ℕ) (v : ℕ) (X : List ℕ) : Type 0 where
   known : (getD W v 0 ≡ 0 → ⊥) → X ≡ W → Visited P W v X

@@ -5,7 +5,8 @@ ghost use lib.IntN.{pos, _-ℤ_};
 ghost use lib.ListN.{length, getD, set};
 ghost use Rattle.monotone.specs.Plane.{cross, dot};
 ghost use Rattle.laws.specs.Regions.{Only};
-ghost use Rattle.monotone.specs.Rows.{Ready, Turned};
+ghost use Rattle.table.specs.Work.{Zeroed};
+ghost use Rattle.monotone.specs.Rows.{Ready, Turned, Row, Reached, Visited};
 ghost use Rattle.monotone.specs.Cones.{vec, Small, Near, Moved, partAt, edgeAt, Part, Edges, Alone, Formed, Grown};
 
 use table::clear;
@@ -162,4 +163,38 @@ fn turn(parent: &[u32], work: &mut [u32], u: usize)
         flip(work, 2 * n + z);
         z = get(parent, z);
     }
+}
+
+// The cones of the paths from u to itself and its ancestors.
+fn climb(parent: &[u32], work: &mut [u32], u: usize)
+    requires { ⌜ Ready (now parent) (now work) × (u < length (now parent)) × Zeroed 0 (length (now parent)) (now work) ⌝ }
+    ensures { λ _. ⌜ Row (now (parent .entry)) (edgeAt (length (now (parent .entry))) (now (work .entry))) u (now (work .exit)) ⌝ }
+    ensures { λ _. ⌜ Only 0 (length (now (parent .entry))) (now (work .entry)) (now (work .exit)) ⌝ }
+{
+    let n = parent.len();
+    put(work, u, 1);
+    let mut z = u;
+    while 0 < z {
+        let p = get(parent, z);
+        let cone = get(work, z);
+        let next = grow(work, n, cone, z);
+        put(work, p, next);
+        z = p;
+    }
+}
+
+// The cone of the path to v, from that of the path to v's parent, where it is not known yet.
+fn visit(parent: &[u32], work: &mut [u32], v: usize)
+    requires { ⌜ Ready (now parent) (now work) × Reached (now parent) (now work) v ⌝ }
+    ensures { λ _. ⌜ Visited (now (parent .entry)) (now (work .entry)) v (now (work .exit)) ⌝ }
+{
+    let n = parent.len();
+    let known = get(work, v);
+    if known != 0 {
+        return;
+    }
+    let p = get(parent, v);
+    let cone = get(work, p);
+    let next = grow(work, n, cone, v);
+    put(work, v, next);
 }
