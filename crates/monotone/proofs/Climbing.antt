@@ -138,3 +138,8 @@ module _ {P R : List ℕ} (T : Tree P R) {u : ℕ} (l : u < length P) {W : List 
 pub row-before : {P : List ℕ} {u : ℕ} {old W X : List ℕ} → Only 0 (length P) old W → Row P (edgeAt (length P) W) u X
     → Row P (edgeAt (length P) old) u X
 row-before {P} {u} {X = X} o r = subst (λ (e : ℕ → Vec). Row P e u X) (vectors-kept o) r
+
+-- and those from after the last
+pub row-after : {P : List ℕ} {u : ℕ} {W X : List ℕ} → Only 0 (length P) W X → Row P (edgeAt (length P) W) u X
+    → Row P (edgeAt (length P) X) u X
+row-after {P} {u} {X = X} o r = subst⁻¹ (λ (e : ℕ → Vec). Row P e u X) (vectors-kept o) r

@@ -75,13 +75,15 @@ pub record Ordered (P W : List ℕ) : Type 0 where
   pub inside : (j : ℕ) → j < length P → getD W (3 * length P + j) 0 < length P
   pub place : (j : ℕ) → j < length P → number (getD W (3 * length P + j) 0) ≡ j + 1
   pub once : (v w : ℕ) → v < length P → w < length P → number v ≡ number w → v ≡ w
+  pub least : (v : ℕ) → v < length P → 1 ≤ number v
   pub most : (v : ℕ) → v < length P → number v ≤ length P
   pub later : (v : ℕ) → 0 < v → v < length P → number v < number (parent P v)
 
 -- the paths are of the edges walked away from u
 pub record Coned (P : List ℕ) (u : ℕ) (W X : List ℕ) : Type 0 where
   pub away : List ℕ
-  pub turned : Turned P u W away
+  pub across : TurnedPart P u (length P) W away
+  pub up : TurnedPart P u (2 * length P) W away
   pub said : (v : ℕ) → v < length P → Said P (edgeAt (length P) away) u (getD X v 0) v
   pub only : Only 0 (length P) W X
 

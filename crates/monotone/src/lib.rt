@@ -6,7 +6,7 @@ ghost use lib.ListN.{length, getD, set};
 ghost use Rattle.monotone.specs.Plane.{cross, dot};
 ghost use Rattle.laws.specs.Regions.{Only};
 ghost use Rattle.table.specs.Work.{Zeroed};
-ghost use Rattle.monotone.specs.Rows.{Ready, Turned, Row, Reached, Visited};
+ghost use Rattle.monotone.specs.Rows.{Ready, Turned, Row, Reached, Visited, Ordered, Coned};
 ghost use Rattle.monotone.specs.Cones.{vec, Small, Near, Moved, partAt, edgeAt, Part, Edges, Alone, Formed, Grown};
 
 use table::clear;
@@ -197,4 +197,22 @@ fn visit(parent: &[u32], work: &mut [u32], v: usize)
     let cone = get(work, p);
     let next = grow(work, n, cone, v);
     put(work, v, next);
+}
+
+// The cones of the paths from u to every node, from the root down.
+fn cones(parent: &[u32], work: &mut [u32], u: usize)
+    requires { ⌜ Ready (now parent) (now work) × Ordered (now parent) (now work) × (u < length (now parent)) ⌝ }
+    ensures { λ _. ⌜ Coned (now (parent .entry)) u (now (work .entry)) (now (work .exit)) ⌝ }
+{
+    let n = parent.len();
+    clear(work, 0, n);
+    turn(parent, work, u);
+    climb(parent, work, u);
+    let mut j = n;
+    while 0 < j {
+        j -= 1;
+        let v = get(work, 3 * n + j);
+        visit(parent, work, v);
+    }
+    turn(parent, work, u);
 }
