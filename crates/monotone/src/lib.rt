@@ -1,4 +1,5 @@
 // Whether a given drawing of a tree is monotone.
+ghost use mathlib.Core.List.{List};
 ghost use mathlib.Core.Path.{_≡_};
 ghost use Prim.Native.Nat.{ℕ, _+_, _-_, _*_, _≤_, _<_};
 ghost use lib.IntN.{pos, _-ℤ_};
@@ -6,7 +7,7 @@ ghost use lib.ListN.{length, getD, set};
 ghost use Rattle.monotone.specs.Plane.{cross, dot};
 ghost use Rattle.laws.specs.Regions.{Only};
 ghost use Rattle.table.specs.Work.{Zeroed};
-ghost use Rattle.monotone.specs.Rows.{Ready, Turned, Row, Reached, Visited, Ordered, Coned};
+ghost use Rattle.monotone.specs.Rows.{Ready, Turned, Row, Reached, Visited, Ordered, Coned, Drawn, Found};
 ghost use Rattle.monotone.specs.Cones.{vec, Small, Near, Moved, partAt, edgeAt, Part, Edges, Alone, Formed, Grown};
 
 use table::clear;
@@ -215,4 +216,27 @@ fn cones(parent: &[u32], work: &mut [u32], u: usize)
         visit(parent, work, v);
     }
     turn(parent, work, u);
+}
+
+// Whether every pair has a direction, or the first pair that has none: the first whose path has no open half plane.
+fn pairs(parent: &[u32], work: &mut [u32]) -> Verdict
+    requires { ⌜ Ready (now parent) (now work) × Ordered (now parent) (now work) ⌝ }
+    ensures { λ r. ⌜ ((x y : List ℕ) → Drawn (now (parent .entry)) x y (now (work .entry)) → Found (now (parent .entry)) x y r) ⌝ }
+{
+    let n = parent.len();
+    let mut answer = Verdict::Monotone;
+    let mut u = 0;
+    'pairs: while u < n {
+        cones(parent, work, u);
+        let mut v = u + 1;
+        while v < n {
+            if get(work, v) == 2 {
+                answer = Verdict::Turns(u as u32, v as u32);
+                break 'pairs;
+            }
+            v += 1;
+        }
+        u += 1;
+    }
+    answer
 }
