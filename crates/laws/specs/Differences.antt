@@ -34,8 +34,10 @@ diff-sub a b =
 
 pub diff-add : (z w : ℤ) (m n k l : ℕ) → IsDiff z m n → IsDiff w k l → IsDiff (z +ℤ w) (m + k) (n + l)
 diff-add (pos a) (pos b) m n k l h g = omega arith
-diff-add (pos a) (negsuc b) m n k l h g = recast (subℕ a (suc b)) a (suc b) (m + k) (n + l) (diff-sub a (suc b)) (omega arith)
-diff-add (negsuc a) (pos b) m n k l h g = recast (subℕ b (suc a)) b (suc a) (m + k) (n + l) (diff-sub b (suc a)) (omega arith)
+diff-add (pos a) (negsuc b) m n k l h g =
+    recast (subℕ a (suc b)) a (suc b) (m + k) (n + l) (diff-sub a (suc b)) (omega arith)
+diff-add (negsuc a) (pos b) m n k l h g =
+    recast (subℕ b (suc a)) b (suc a) (m + k) (n + l) (diff-sub b (suc a)) (omega arith)
 diff-add (negsuc a) (negsuc b) m n k l h g = omega arith
 
 pub diff-mul : (z w : ℤ) (m n k l : ℕ) → IsDiff z m n → IsDiff w k l → IsDiff (z *ℤ w) (m * k + n * l) (m * l + n * k)

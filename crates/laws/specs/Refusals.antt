@@ -54,7 +54,8 @@ refuse-none false k v e = refl
 ------------------------------------------------------------------------
 -- The least node that fails
 
-pub refuseLeast-yes : (k n : ℕ) (test : ℕ → Bool) (v : ℕ) → v ≡ least test n → v < n → refuseLeast k n test ≡ refusal k v
+pub refuseLeast-yes : (k n : ℕ) (test : ℕ → Bool) (v : ℕ) → v ≡ least test n → v < n
+    → refuseLeast k n test ≡ refusal k v
 refuseLeast-yes k n test v e l =
     refuse-yes _ k (least test n) (lt-ltb (least test n) n (omega arith)) ∙ ap (refusal k) (sym e)
 

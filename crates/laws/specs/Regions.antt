@@ -15,7 +15,8 @@ pub record Only (a e : ℕ) (W X : List ℕ) : Type 0 where
   pub below : (k : ℕ) → k < a → getD X k 0 ≡ getD W k 0
   pub above : (k : ℕ) → e ≤ k → getD X k 0 ≡ getD W k 0
 
-pub read-set : (l : List ℕ) (i j x y : ℕ) → i < length l → (j ≡ i → x ≡ y) → ((j ≡ i → ⊥) → getD l j 0 ≡ y) → getD (set l i x) j 0 ≡ y
+pub read-set : (l : List ℕ) (i j x y : ℕ) → i < length l → (j ≡ i → x ≡ y) → ((j ≡ i → ⊥) → getD l j 0 ≡ y)
+    → getD (set l i x) j 0 ≡ y
 read-set l i j x y h same other =
     by-eq j i
     (λ e. subst⁻¹ (λ (k : ℕ). getD (set l i x) k 0 ≡ y) e (getD-set-same l i x 0 h ∙ same e))
@@ -33,7 +34,8 @@ only-trans o p = record {
 
 -- a region within another
 pub only-within : {a b c e : ℕ} {W X : List ℕ} → Only b c W X → a ≤ b → c ≤ e → Only a e W X
-only-within o l m = record { long = o .long; below = λ k h. o .below k (omega arith); above = λ k h. o .above k (omega arith) }
+only-within o l m = record
+    { long = o .long; below = λ k h. o .below k (omega arith); above = λ k h. o .above k (omega arith) }
 
 -- a store in the region
 pub only-store : {a e : ℕ} {X Y : List ℕ} (i x : ℕ) → a ≤ i → i < e → Y ≡ set X i x → Only a e X Y
@@ -49,4 +51,5 @@ only-set i x o h l q = only-trans o (only-store i x h l q)
 
 -- an empty region: nothing has changed
 pub only-none : {a e : ℕ} {W X : List ℕ} → Only a e W X → e ≤ a → X ≡ W
-only-none {a} {e} {W} {X} o h = ext-getD 0 X W (o .long) (λ i l. by-lt i a (λ b. o .below i b) (λ b. o .above i (omega arith)))
+only-none {a} {e} {W} {X} o h =
+    ext-getD 0 X W (o .long) (λ i l. by-lt i a (λ b. o .below i b) (λ b. o .above i (omega arith)))

@@ -38,7 +38,8 @@ count-le f (suc n) = omega (arith, count-le f n, bit-le (f n))
 pub count-cong : (f g : ℕ → Bool) (n : ℕ) → ((k : ℕ) → k < n → f k ≡ g k) → count f n ≡ count g n
 unfolding count
 count-cong f g zero h = refl
-count-cong f g (suc n) h = ap₂ (λ (a b : ℕ). a + b) (count-cong f g n (λ k l. h k (omega arith))) (ap bit (h n (omega arith)))
+count-cong f g (suc n) h =
+    ap₂ (λ (a b : ℕ). a + b) (count-cong f g n (λ k l. h k (omega arith))) (ap bit (h n (omega arith)))
 
 -- what passes below m passes below n
 pub count-mono : (f : ℕ → Bool) (m n : ℕ) → m ≤ n → count f m ≤ count f n
@@ -67,7 +68,8 @@ unfolding count
 count-some f zero h = absurd (omega arith)
 count-some f (suc n) h =
     by-test (f n) (λ e. (n, omega arith, e))
-    (λ e. let r : (k : ℕ) × (k < n) × (f k ≡ true) = count-some f n (omega (arith, ap bit e)) in (r .0, omega arith, r .2))
+    (λ e. let r : (k : ℕ) × (k < n)
+    × (f k ≡ true) = count-some f n (omega (arith, ap bit e)) in (r .0, omega arith, r .2))
 
 -- two that pass count two
 pub count-two : (f : ℕ → Bool) (n j k : ℕ) → j < k → k < n → f j ≡ true → f k ≡ true → 1 < count f n
@@ -91,7 +93,8 @@ least-below f (suc n) k =
     by-test (ltb (least f n) n) (λ e. rw e (least-below f n k))
     (λ e. rw e (by-test (f n) (λ t. rw t (λ l. least-below f n k (omega (arith, ltb-false (least f n) n e))))
     (λ t. rw t (λ l. ⊎-elim (λ (q : k ≡ n). rw q t)
-    (λ (q : k < n). least-below f n k (omega (arith, ltb-false (least f n) n e))) (eq-or-lt-of-le (le-of-suc-le-suc l))))))
+    (λ (q : k < n). least-below f n k (omega (arith, ltb-false (least f n) n e)))
+    (eq-or-lt-of-le (le-of-suc-le-suc l))))))
 
 pub least-passes : (f : ℕ → Bool) (n : ℕ) → least f n < n → f (least f n) ≡ true
 unfolding least
@@ -140,6 +143,8 @@ getD-tabulate (suc n) f i l =
     (λ b. getD-at (tabulate n f) (f n) [] 0 i (length-tabulate n f ∙ omega arith) ∙ ap f (omega arith))
 
 -- a list is the table of its own elements, and of whatever agrees with them
-pub tabulate-is : (l : List ℕ) (n : ℕ) (f : ℕ → ℕ) → length l ≡ n → ((i : ℕ) → i < n → getD l i 0 ≡ f i) → l ≡ tabulate n f
+pub tabulate-is : (l : List ℕ) (n : ℕ) (f : ℕ → ℕ) → length l ≡ n → ((i : ℕ) → i < n → getD l i 0 ≡ f i)
+    → l ≡ tabulate n f
 tabulate-is l n f e at =
-    ext-getD 0 l (tabulate n f) (e ∙ sym (length-tabulate n f)) (λ i h. at i (omega arith) ∙ sym (getD-tabulate n f i (omega arith)))
+    ext-getD 0 l (tabulate n f) (e ∙ sym (length-tabulate n f))
+    (λ i h. at i (omega arith) ∙ sym (getD-tabulate n f i (omega arith)))

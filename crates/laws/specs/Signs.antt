@@ -101,7 +101,8 @@ not-both (negsuc n) h k = h .le
 pub cancel : (a b : ℤ) → pos 0 ≤ℤ a → pos 0 <ℤ (a *ℤ b) → pos 0 <ℤ b
 cancel a (pos zero) h k = absurd (<ℤ-irrefl (<-to (*ℤ-zero a) k))
 cancel a (pos (suc n)) h k = positive n
-cancel a (negsuc n) h k = absurd (not-both (a *ℤ pos (suc n)) (≤*≤ a (pos (suc n)) h (at-least (suc n))) (<-to (*ℤ-negsuc a n) k))
+cancel a (negsuc n) h k =
+    absurd (not-both (a *ℤ pos (suc n)) (≤*≤ a (pos (suc n)) h (at-least (suc n))) (<-to (*ℤ-negsuc a n) k))
 
 ------------------------------------------------------------------------
 -- The cases of a sign
@@ -150,4 +151,7 @@ diff⁻ a b h = go (decLt a b)
         absurd (not-both (pos (a - b)) (at-least (a - b)) (<-to z h))
       where
         flip : (a b : ℕ) → b ≤ a → pos b -ℤ pos a ≡ negℤ (pos (a - b))
-        flip a b k = ap (λ (z : ℤ). pos b +ℤ z) (refl {a = negℤ (pos a)}) ∙ sym (negℤ-negℤ (pos b -ℤ pos a)) ∙ ap negℤ (negℤ-+ℤ (pos b) (negℤ (pos a)) ∙ ap (λ (z : ℤ). negℤ (pos b) +ℤ z) (negℤ-negℤ (pos a)) ∙ +ℤ-comm (negℤ (pos b)) (pos a) ∙ diff b a k)
+        flip a b k =
+            ap (λ (z : ℤ). pos b +ℤ z) (refl {a = negℤ (pos a)}) ∙ sym (negℤ-negℤ (pos b -ℤ pos a))
+            ∙ ap negℤ (negℤ-+ℤ (pos b) (negℤ (pos a)) ∙ ap (λ (z : ℤ). negℤ (pos b) +ℤ z) (negℤ-negℤ (pos a))
+            ∙ +ℤ-comm (negℤ (pos b)) (pos a) ∙ diff b a k)

@@ -118,7 +118,8 @@ addC-is a (hor p q) ρ =
 add-is : (p r : Poly) (ρ : List ℤ) → val (add p r) ρ ≡ val p ρ +ℤ val r ρ
 add-is (con a) r ρ = addC-is a r ρ
 add-is (hor p q) (con b) ρ =
-    ap (λ (z : ℤ). z +ℤ headℤ ρ *ℤ val q ρ) (addC-is b p (tailℤ ρ) ∙ +ℤ-comm b (val p (tailℤ ρ))) ∙ swapʳ (val p (tailℤ ρ)) b (headℤ ρ *ℤ val q ρ)
+    ap (λ (z : ℤ). z +ℤ headℤ ρ *ℤ val q ρ) (addC-is b p (tailℤ ρ) ∙ +ℤ-comm b (val p (tailℤ ρ)))
+    ∙ swapʳ (val p (tailℤ ρ)) b (headℤ ρ *ℤ val q ρ)
 add-is (hor p q) (hor p' q') ρ =
     ap₂ (λ (y z : ℤ). y +ℤ headℤ ρ *ℤ z) (add-is p p' (tailℤ ρ)) (add-is q q' ρ)
     ∙ ap (λ (z : ℤ). (val p (tailℤ ρ) +ℤ val p' (tailℤ ρ)) +ℤ z) (distˡ (headℤ ρ) (val q ρ) (val q' ρ))
@@ -131,9 +132,11 @@ scale-is a (hor p q) ρ =
     ∙ ap (λ (z : ℤ). a *ℤ val p (tailℤ ρ) +ℤ z) (sym (turn a (headℤ ρ) (val q ρ)))
     ∙ sym (distˡ a (val p (tailℤ ρ)) (headℤ ρ *ℤ val q ρ))
 
-mulL-is : (p : Poly) (f : Poly → Poly) → ((s : Poly) (σ : List ℤ) → val (f s) σ ≡ val p σ *ℤ val s σ) → (r : Poly) (ρ : List ℤ) → val (mulL f r) ρ ≡ val p (tailℤ ρ) *ℤ val r ρ
+mulL-is : (p : Poly) (f : Poly → Poly) → ((s : Poly) (σ : List ℤ) → val (f s) σ ≡ val p σ *ℤ val s σ)
+    → (r : Poly) (ρ : List ℤ) → val (mulL f r) ρ ≡ val p (tailℤ ρ) *ℤ val r ρ
 mulL-is p f h (con b) ρ =
-    ap (λ (z : ℤ). val (f (con b)) (tailℤ ρ) +ℤ z) (*ℤ-zero (headℤ ρ)) ∙ +ℤ-idr (val (f (con b)) (tailℤ ρ)) ∙ h (con b) (tailℤ ρ)
+    ap (λ (z : ℤ). val (f (con b)) (tailℤ ρ) +ℤ z) (*ℤ-zero (headℤ ρ)) ∙ +ℤ-idr (val (f (con b)) (tailℤ ρ))
+    ∙ h (con b) (tailℤ ρ)
 mulL-is p f h (hor r s) ρ =
     ap₂ (λ (y z : ℤ). y +ℤ headℤ ρ *ℤ z) (h r (tailℤ ρ)) (mulL-is p f h s ρ)
     ∙ ap (λ (z : ℤ). val p (tailℤ ρ) *ℤ val r (tailℤ ρ) +ℤ z) (sym (turn (val p (tailℤ ρ)) (headℤ ρ) (val s ρ)))
@@ -143,8 +146,10 @@ mul-is : (p r : Poly) (ρ : List ℤ) → val (mul p r) ρ ≡ val p ρ *ℤ val
 mul-is (con a) r ρ = scale-is a r ρ
 mul-is (hor p q) r ρ =
     add-is (mulL (λ s. mul p s) r) (hor (con (pos 0)) (mul q r)) ρ
-    ∙ ap₂ (λ (y z : ℤ). y +ℤ (pos 0 +ℤ headℤ ρ *ℤ z)) (mulL-is p (λ s. mul p s) (λ s σ. mul-is p s σ) r ρ) (mul-is q r ρ)
-    ∙ ap (λ (z : ℤ). val p (tailℤ ρ) *ℤ val r ρ +ℤ z) (+ℤ-idl (headℤ ρ *ℤ (val q ρ *ℤ val r ρ)) ∙ sym (*-assoc (headℤ ρ) (val q ρ) (val r ρ)))
+    ∙ ap₂ (λ (y z : ℤ). y +ℤ (pos 0 +ℤ headℤ ρ *ℤ z)) (mulL-is p (λ s. mul p s) (λ s σ. mul-is p s σ) r ρ)
+    (mul-is q r ρ)
+    ∙ ap (λ (z : ℤ). val p (tailℤ ρ) *ℤ val r ρ +ℤ z)
+    (+ℤ-idl (headℤ ρ *ℤ (val q ρ *ℤ val r ρ)) ∙ sym (*-assoc (headℤ ρ) (val q ρ) (val r ρ)))
     ∙ sym (distʳ (val p (tailℤ ρ)) (headℤ ρ *ℤ val q ρ) (val r ρ))
 
 var-is : (i : ℕ) (ρ : List ℤ) → val (var i) ρ ≡ look i ρ
@@ -180,7 +185,8 @@ both-is false b t = absurd t
 none-is : (p : Poly) (ρ : List ℤ) → T (none p) → val p ρ ≡ pos 0
 none-is (con c) ρ t = noneℤ-is c t
 none-is (hor p q) ρ t =
-    ap₂ (λ (y z : ℤ). y +ℤ headℤ ρ *ℤ z) (none-is p (tailℤ ρ) (both-is (none p) (none q) t .0)) (none-is q ρ (both-is (none p) (none q) t .1))
+    ap₂ (λ (y z : ℤ). y +ℤ headℤ ρ *ℤ z) (none-is p (tailℤ ρ) (both-is (none p) (none q) t .0))
+    (none-is q ρ (both-is (none p) (none q) t .1))
     ∙ ap (λ (z : ℤ). pos 0 +ℤ z) (*ℤ-zero (headℤ ρ))
 
 -- a - b is zero: a is b

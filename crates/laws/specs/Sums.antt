@@ -83,16 +83,28 @@ unfolding count
 two-ways f h m zero e = sum-none m
 two-ways f h m (suc k) e =
     sum-plus (λ (p : ℕ). count (f p) k) (λ (p : ℕ). bit (f p k)) m
-    ∙ ap₂ (λ (a b : ℕ). a + b) (two-ways f h m k (λ v l. e v (omega arith))) (sum-bits (λ (p : ℕ). f p k) m ∙ e k (omega arith))
+    ∙ ap₂ (λ (a b : ℕ). a + b) (two-ways f h m k (λ v l. e v (omega arith)))
+    (sum-bits (λ (p : ℕ). f p k) m ∙ e k (omega arith))
 
 -- exactly one passes
-pub count-one : (f : ℕ → Bool) (m q : ℕ) → q < m → f q ≡ true → ((p : ℕ) → p < m → (p ≡ q → ⊥) → f p ≡ false) → count f m ≡ 1
+pub count-one : (f : ℕ → Bool) (m q : ℕ) → q < m → f q ≡ true → ((p : ℕ) → p < m → (p ≡ q → ⊥) → f p ≡ false)
+    → count f m ≡ 1
 unfolding count
 count-one f zero q l e no-other = absurd (omega arith)
 count-one f (suc m) q l e other =
     ⊎-elim
-    (λ (s : q ≡ m). omega (arith, ap bit (subst (λ (x : ℕ). f x ≡ true) s e), count-none f m (λ k b. other k (omega arith) (λ x. omega arith))))
-    (λ (s : q < m). omega (arith, ap bit (other m (omega arith) (λ x. omega arith)), count-one f m q s e (λ p b ne. other p (omega arith) ne)))
+    (λ (s : q ≡ m). omega (
+      arith,
+      ap bit (subst (λ (x : ℕ). f x ≡ true) s e),
+      count-none f m
+          (λ k b. other k (omega arith) (λ x. omega arith)),
+    ))
+    (λ (s : q < m). omega (
+      arith,
+      ap bit (other m (omega arith) (λ x. omega arith)),
+      count-one f m q s e
+          (λ p b ne. other p (omega arith) ne),
+    ))
     (eq-or-lt-of-le (le-of-suc-le-suc l))
 
 -- m terms of at most 1 sum to at most m
@@ -110,8 +122,10 @@ unfolding sum
 all-ones g zero h e r l = absurd (omega arith)
 all-ones g (suc m) h e r l =
     ⊎-elim
-    (λ (s : r ≡ m). subst⁻¹ (λ (x : ℕ). g x ≡ 1) s (omega (arith, sum-le g m (λ r l. h r (omega arith)), h m (omega arith))))
-    (λ (s : r < m). all-ones g m (λ r l. h r (omega arith)) (omega (arith, sum-le g m (λ r l. h r (omega arith)), h m (omega arith))) r s)
+    (λ (s : r ≡ m). subst⁻¹ (λ (x : ℕ). g x ≡ 1) s
+    (omega (arith, sum-le g m (λ r l. h r (omega arith)), h m (omega arith))))
+    (λ (s : r < m). all-ones g m (λ r l. h r (omega arith))
+    (omega (arith, sum-le g m (λ r l. h r (omega arith)), h m (omega arith))) r s)
     (eq-or-lt-of-le (le-of-suc-le-suc l))
 
 -- at most one passes where no two do
@@ -120,7 +134,12 @@ unfolding count
 count-few f zero h = omega arith
 count-few f (suc n) h =
     by-test (f n)
-    (λ e. omega (arith, ap bit e, count-none f n (λ k l. by-test (f k) (λ t. absurd (h k n l (omega arith) t e)) (λ t. t))))
+    (λ e. omega (
+      arith,
+      ap bit e,
+      count-none f n
+          (λ k l. by-test (f k) (λ t. absurd (h k n l (omega arith) t e)) (λ t. t)),
+    ))
     (λ e. omega (arith, ap bit e, count-few f n (λ j k a b. h j k a (omega arith))))
 
 pub count-all : (t : ℕ) → count (λ (i : ℕ). true) t ≡ t
@@ -129,14 +148,17 @@ count-all zero = refl
 count-all (suc t) = omega (arith, count-all t)
 
 -- the pigeonhole for sequences: t different numbers below n are at most n
-pub injective-le : (q : ℕ → ℕ) (t n : ℕ) → ((i : ℕ) → i < t → q i < n) → ((i j : ℕ) → i < j → j < t → q i ≡ q j → ⊥) → t ≤ n
+pub injective-le : (q : ℕ → ℕ) (t n : ℕ) → ((i : ℕ) → i < t → q i < n)
+    → ((i j : ℕ) → i < j → j < t → q i ≡ q j → ⊥) → t ≤ n
 injective-le q t n b d =
     omega (
       arith,
       sum-le (λ (v : ℕ). count (λ (i : ℕ). eqb (q i) v) t) n
-          (λ v l. count-few (λ (i : ℕ). eqb (q i) v) t (λ j k m o x y. d j k m o (eqb-true _ _ x ∙ sym (eqb-true _ _ y)))),
+          (λ v l. count-few (λ (i : ℕ). eqb (q i) v) t
+          (λ j k m o x y. d j k m o (eqb-true _ _ x ∙ sym (eqb-true _ _ y)))),
       two-ways (λ (v i : ℕ). eqb (q i) v) (λ (i : ℕ). true) n t
-          (λ i l. count-one (λ (v : ℕ). eqb (q i) v) n (q i) (b i l) (eq-eqb (q i) (q i) refl) (λ p m ne. ne-eqb (q i) p (λ x. ne (sym x)))),
+          (λ i l. count-one (λ (v : ℕ). eqb (q i) v) n (q i) (b i l) (eq-eqb (q i) (q i) refl)
+          (λ p m ne. ne-eqb (q i) p (λ x. ne (sym x)))),
       count-all t,
     )
 
@@ -148,7 +170,8 @@ injective-onto q n b d v l =
     all-ones (λ (v : ℕ). count (λ (i : ℕ). eqb (q i) v) n) n
     (λ v l. count-few (λ (i : ℕ). eqb (q i) v) n (λ j k m o x y. d j k m o (eqb-true _ _ x ∙ sym (eqb-true _ _ y))))
     (two-ways (λ (v i : ℕ). eqb (q i) v) (λ (i : ℕ). true) n n
-    (λ i l. count-one (λ (v : ℕ). eqb (q i) v) n (q i) (b i l) (eq-eqb (q i) (q i) refl) (λ p m ne. ne-eqb (q i) p (λ x. ne (sym x)))) ∙ count-all n)
+    (λ i l. count-one (λ (v : ℕ). eqb (q i) v) n (q i) (b i l) (eq-eqb (q i) (q i) refl)
+    (λ p m ne. ne-eqb (q i) p (λ x. ne (sym x)))) ∙ count-all n)
     v l in
     let s : (i : ℕ) × (i < n) × (eqb (q i) v ≡ true) = count-some (λ (i : ℕ). eqb (q i) v) n (omega arith) in
     (s .0, s .1, eqb-true (q (s .0)) v (s .2))
@@ -181,20 +204,24 @@ sum-weigh f x (suc m) true e =
     (λ t. omega (arith, sum-weigh f x m true (omega (arith, ap bit t)), ap (λ (b : Bool). weigh b x) t))
 
 -- the sum of g in two ways: each v counts for one p below m where h v holds, and for none where not
-pub weighed : (f : ℕ → ℕ → Bool) (h : ℕ → Bool) (g : ℕ → ℕ) (m k : ℕ) → ((v : ℕ) → v < k → count (λ (p : ℕ). f p v) m ≡ bit (h v))
+pub weighed : (f : ℕ → ℕ → Bool) (h : ℕ → Bool) (g : ℕ → ℕ) (m k : ℕ)
+    → ((v : ℕ) → v < k → count (λ (p : ℕ). f p v) m ≡ bit (h v))
     → sum (λ (p : ℕ). weightedSum (f p) g k) m ≡ weightedSum h g k
 unfolding weightedSum sum
 weighed f h g m zero e = sum-none m
 weighed f h g m (suc k) e =
     sum-plus (λ (p : ℕ). weightedSum (f p) g k) (λ (p : ℕ). weigh (f p k) (g k)) m
-    ∙ ap₂ (λ (a b : ℕ). a + b) (weighed f h g m k (λ v l. e v (omega arith))) (sum-weigh (λ (p : ℕ). f p k) (g k) m (h k) (e k (omega arith)))
+    ∙ ap₂ (λ (a b : ℕ). a + b) (weighed f h g m k (λ v l. e v (omega arith)))
+    (sum-weigh (λ (p : ℕ). f p k) (g k) m (h k) (e k (omega arith)))
 
 -- one alone passes
-pub weigh-one : (f : ℕ → Bool) (g : ℕ → ℕ) (n q : ℕ) → q < n → f q ≡ true → ((p : ℕ) → p < n → (p ≡ q → ⊥) → f p ≡ false) → weightedSum f g n ≡ g q
+pub weigh-one : (f : ℕ → Bool) (g : ℕ → ℕ) (n q : ℕ) → q < n → f q ≡ true
+    → ((p : ℕ) → p < n → (p ≡ q → ⊥) → f p ≡ false) → weightedSum f g n ≡ g q
 unfolding weightedSum
 weigh-one f g n q l t other =
     sum-cong _ (λ (v : ℕ). weigh (f v) (g q)) n
-    (λ v m. by-eq v q (λ e. ap (λ (x : ℕ). weigh (f v) (g x)) e) (λ ne. ap (λ (b : Bool). weigh b (g v)) (other v m ne) ∙ sym (ap (λ (b : Bool). weigh b (g q)) (other v m ne))))
+    (λ v m. by-eq v q (λ e. ap (λ (x : ℕ). weigh (f v) (g x)) e)
+    (λ ne. ap (λ (b : Bool). weigh b (g v)) (other v m ne) ∙ sym (ap (λ (b : Bool). weigh b (g q)) (other v m ne))))
     ∙ sum-weigh f (g q) n true (count-one f n q l t other)
 
 -- the first term and the others

@@ -97,7 +97,8 @@ tallying-start {P} {W} w z = record {
         (λ c. absurd (omega (arith, w .nodes .some)))
 
 -- what a turn reads and writes
-module _ {P W X : List ℕ} {v p : ℕ} (w : Scratch P W) (i : Tallying P W X v) (l : v < length P) (e : p ≡ parent P v) where
+module _ {P W X : List ℕ} {v p : ℕ} (w : Scratch P W) (i : Tallying P W X v) (l : v < length P)
+    (e : p ≡ parent P v) where
   pub tallying-in : p + 1 < length X
   tallying-in = omega (arith, w .nodes .inside v l, i .kept .long, w .room)
 
@@ -146,7 +147,8 @@ pub accumulating-start : {P W : List ℕ} → Tallied P W → Accumulating P W W
 accumulating-start {P} {W} t = record {
   upto = omega arith;
   done = λ q l.
-      let z : q ≡ 0 = omega arith in ap (λ (x : ℕ). getD W x 0) z ∙ t .none ∙ sym (ap (sum (children P)) z ∙ sum-zero (children P));
+      let z : q ≡ 0 = omega arith in ap (λ (x : ℕ). getD W x 0) z ∙ t .none
+      ∙ sym (ap (sum (children P)) z ∙ sum-zero (children P));
   left = λ q l m. t .at q m;
   kept = only-refl 0 (length P + 1) W;
 }
@@ -185,7 +187,8 @@ module _ {P W X : List ℕ} {p : ℕ} (w : Scratch P W) (i : Accumulating P W X 
         less : (q : ℕ) → q ≤ p + 1 → (q ≡ p + 1 → ⊥) → q ≤ p
         less q m ne = omega arith
 
-pub accumulating-end : {P W X : List ℕ} {p : ℕ} → Accumulating P W X p → length P ≤ p → Started P X × Only 0 (length P + 1) W X
+pub accumulating-end : {P W X : List ℕ} {p : ℕ} → Accumulating P W X p → length P ≤ p
+    → Started P X × Only 0 (length P + 1) W X
 accumulating-end i h = (record { at = λ q l. i .done q (omega arith) }, i .kept)
 
 pub started-all : {P W A B C : List ℕ} → Scratch P W → Zeroed 0 (2 * length P) A × Only 0 (2 * length P) W A

@@ -69,7 +69,8 @@ module _ {P W : List ℕ} {v u k : ℕ} (w : Scratch P W) (i : Stepping P W v u 
 
   pub stepping-end : length P < k → k ≡ least (λ j. marked P W (climb P j v)) (length P + 1)
   stepping-end h =
-      least-is (λ j. marked P W (climb P j v)) (length P + 1) k (i .upto) (i .passed) (λ l. absurd (omega (arith, i .upto)))
+      least-is (λ j. marked P W (climb P j v)) (length P + 1) k (i .upto) (i .passed)
+      (λ l. absurd (omega (arith, i .upto)))
 
 ------------------------------------------------------------------------
 -- Marking the way
@@ -110,19 +111,23 @@ module _ {P W X : List ℕ} {v k u i : ℕ} (r : Reaching P W v k) (p : Passing 
 
   leads-on : i < k → (m : ℕ) × (climb P m u ≡ 0)
   leads-on l =
-      let m = r .marking .leads (climb P k v) (climb-inside P (r .scratch .nodes .inside) k v (r .inside)) (r .here) in (
+      let m = r .marking .leads (climb P k v) (climb-inside P (r .scratch .nodes .inside) k v (r .inside))
+      (r .here) in (
         m .0 + (k - i),
         sym (climb-plus P (m .0) (k - i) u)
             ∙ ap (climb P (m .0)) (ap (climb P (k - i)) (p .is) ∙ climb-onward P k i v (omega arith))
             ∙ m .1,
       )
 
-  pub passing-step : {Y : List ℕ} {y : ℕ} → i < k → Y ≡ set X (length P + u) 1 → y ≡ parent P u → Passing P W Y v k y (i + 1)
+  pub passing-step : {Y : List ℕ} {y : ℕ} → i < k → Y ≡ set X (length P + u) 1 → y ≡ parent P u
+      → Passing P W Y v k y (i + 1)
   passing-step {Y} {y} l ey eu = record {
     upto = omega arith;
     is = eu ∙ ap (parent P) (p .is) ∙ sym (climb-suc P i v) ∙ ap (λ (j : ℕ). climb P j v) (sym (add-one i));
     marking = record {
-      root = λ h. marked-yes P Y 0 (omega (arith, other 0 (λ e. omega (arith, above-root l)), marked-of P X 0 (p .marking .root h)));
+      root =
+          λ h. marked-yes P Y 0
+          (omega (arith, other 0 (λ e. omega (arith, above-root l)), marked-of P X 0 (p .marking .root h)));
       leads = λ z b t. by-eq z u
           (λ e. subst⁻¹ (λ (a : ℕ). (m : ℕ) × (climb P m a ≡ 0)) e (leads-on l))
           (λ ne. p .marking .leads z b (marked-yes P X z (omega (arith, other z ne, marked-of P Y z t))));
@@ -185,7 +190,8 @@ pub record Drifting (P W X : List ℕ) (v : ℕ) : Type 0 where
   pub fine : (k : ℕ) → k < v → adrift P k ≡ false
   pub kept : Only (length P + 1) (2 * length P) W X
 
-pub drifting-start : {P W : List ℕ} → Scratch P W → Started P W → Zeroed (length P + 1) (2 * length P) W → Drifting P W W 1
+pub drifting-start : {P W : List ℕ} → Scratch P W → Started P W → Zeroed (length P + 1) (2 * length P) W
+    → Drifting P W W 1
 drifting-start {P} {W} w d z = record {
   from = omega arith;
   upto = w .nodes .some;

@@ -66,7 +66,8 @@ pub turn : {P R X : List ℕ} {v p r k e : ℕ} → p ≡ parent P v → r ≡ r
 turn {P} {R} {X} {v} {p} {r} ep er ek ee =
     record { parent-is = ep; rank-is = er; slot-is = ap (λ (k : ℕ). k + r) ek; end-is = ee }
 
-module _ {P R X : List ℕ} {v p r s e : ℕ} (w : Scratch P X) (d : Started P X) (l : v < length P) (t : Turn P R X v p r s e) where
+module _ {P R X : List ℕ} {v p r s e : ℕ} (w : Scratch P X) (d : Started P X) (l : v < length P)
+    (t : Turn P R X v p r s e) where
   pub parent-in : p < length P
   parent-in = omega (arith, t .parent-is, w .nodes .inside v l)
 
@@ -149,17 +150,20 @@ module _ {P R X : List ℕ} {v p r s e : ℕ} (i : Seating P R X v) (l : v < len
         absurd (omega (arith, inSlot-of P R k v q .low, rank-high (i .scratch) (i .started) l t h))));
   }
 
-  pub seating-step : {o : ℕ} {Y : List ℕ} → s < e → o ≡ getD X (length P + 1 + s) 0 → Y ≡ set X (length P + 1 + s) (o + 1)
+  pub seating-step : {o : ℕ} {Y : List ℕ} → s < e → o ≡ getD X (length P + 1 + s) 0
+      → Y ≡ set X (length P + 1 + s) (o + 1)
       → Seating P R Y (v + 1) × Only (length P + 1) (2 * length P) X Y
   seating-step {o} {Y} h eo ey =
       let inside = seat-in (i .scratch) (i .started) l t h in
-      let kept : Only (length P + 1) (2 * length P) X Y = only-store (length P + 1 + s) (o + 1) (omega arith) inside ey in (
+      let kept : Only (length P + 1) (2 * length P) X Y = only-store (length P + 1 + s) (o + 1) (omega arith)
+      inside ey in (
         record {
           scratch = scratch-kept (i .scratch) (kept .long);
           long = i .long;
           started = record { at = λ q m. kept .below q (omega arith) ∙ i .started .at q m };
           from = omega arith;
-          at = λ k m. tally-more (inSlot P R) (λ (x : ℕ). length P + 1 + x) (length P - 1) X Y v s (λ a b q. omega arith)
+          at =
+              λ k m. tally-more (inSlot P R) (λ (x : ℕ). length P + 1 + x) (length P - 1) X Y v s (λ a b q. omega arith)
               (seat-room (i .scratch) (i .started) l t h) (omega arith)
               (ey ∙ ap (λ (x : ℕ). set X (length P + 1 + s) (x + 1)) eo) (λ q b. i .at q (omega arith))
               (inSlot-test (record { above = i .from; low = rank-low (i .scratch) (i .started) l t h; is = sym right }))
@@ -215,4 +219,5 @@ module _ {P R X : List ℕ} {v p r s e : ℕ} (w : Scratch P X) (d : Started P X
 
 pub ranking-end : {P R : List ℕ} {v : ℕ} → Ranking P R v → length P ≤ v → length P ≡ least (badRank P R) (length P)
 ranking-end {P} {R} i h =
-    least-is (badRank P R) (length P) (length P) (omega arith) (λ k l. i .fine k (omega arith)) (λ l. absurd (omega arith))
+    least-is (badRank P R) (length P) (length P) (omega arith) (λ k l. i .fine k (omega arith))
+    (λ l. absurd (omega arith))

@@ -33,12 +33,15 @@ refused-not-accepted e = let z : _≡_ {A = ℕ} 0 1 = cc in omega arith
 
 module _ {P R W : List ℕ} (s : Shaped P R W) where
   root-right : refuse (not (eqb (parent P 0) 0 && eqb (rank R 0) 0)) 4 0 ≡ none
-  root-right = refuse-no _ 4 0 (ap not (both-is (eq-eqb (parent P 0) 0 (s .root-parent)) (eq-eqb (rank R 0) 0 (s .root-rank))))
+  root-right =
+      refuse-no _ 4 0 (ap not (both-is (eq-eqb (parent P 0) 0 (s .root-parent)) (eq-eqb (rank R 0) 0 (s .root-rank))))
 
   pub structured-5 : {v : ℕ} → v ≡ least (strayParent P) (length P) → v < length P → Structured P R W W (Refused 5 v)
   unfolding treeFault
   structured-5 {v} e l = record {
-    answer = validity-of (orElse-second _ _ root-right ∙ orElse-first _ _ (refuseLeast-yes 5 (length P) (strayParent P) v e l));
+    answer =
+        validity-of (orElse-second _ _ root-right
+        ∙ orElse-first _ _ (refuseLeast-yes 5 (length P) (strayParent P) v e l));
     kept = only-refl _ _ W;
     started = λ a. absurd (refused-not-accepted a);
   }
@@ -137,7 +140,8 @@ module _ (L : Limits) (P R : List ℕ) (long : Bool) (W : List ℕ) where
           → Validated L P R long W W (Refused 3 0)
       unfolding shapeFault
       wrong-lengths e =
-          early (orElse-second _ _ no-1 ∙ orElse-second _ _ (refuse-no _ (L .surplus) 0 (le-ltb (L .nodes) (length P) few))
+          early (orElse-second _ _ no-1
+          ∙ orElse-second _ _ (refuse-no _ (L .surplus) 0 (le-ltb (L .nodes) (length P) few))
           ∙ refuse-yes _ 3 0 (ap not e))
 
       pub validated-3-ranks : (length R ≡ length P → ⊥) → Validated L P R long W W (Refused 3 0)
@@ -148,7 +152,8 @@ module _ (L : Limits) (P R : List ℕ) (long : Bool) (W : List ℕ) where
 
       pub validated-3-work : (length W ≡ 4 * length P → ⊥) → Validated L P R long W W (Refused 3 0)
       validated-3-work ne =
-          wrong-lengths (rw (ne-eqb (length W) (4 * length P) ne, and-false long) (and-false (eqb (length R) (length P))))
+          wrong-lengths (rw (ne-eqb (length W) (4 * length P) ne, and-false long)
+          (and-false (eqb (length R) (length P))))
 
 ------------------------------------------------------------------------
 -- The rest
@@ -159,7 +164,8 @@ shape full few ranks others work-long =
     record { some = omega arith; few = few; ranks = ranks; others = others; work-long = work-long }
 
 module _ {L : Limits} {P R : List ℕ} {long : Bool} {W : List ℕ} (s : Shape L P R long (length W)) where
-  late : {X : List ℕ} {r : Validity} → r ≡ validity (treeFault P R) → Only 0 (2 * length P) W X → (r ≡ Accepted → Started P X)
+  late : {X : List ℕ} {r : Validity} → r ≡ validity (treeFault P R) → Only 0 (2 * length P) W X
+      → (r ≡ Accepted → Started P X)
       → Validated L P R long W X r
   unfolding tableFault
   late e o d = record {

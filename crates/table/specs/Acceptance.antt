@@ -2,10 +2,12 @@
 --
 --   Shape L ..       == what refusals 1 to 3 leave
 --   Accepting L ..   == what refusals 1 to 7 leave
+--   RanksUsedOnce    == the ranks of a node's children are 0, 1, .., each used by one
 use mathlib.Core.Bool.{Bool, true, false, not, _&&_}
 use mathlib.Core.List.{List}
+use mathlib.Core.Logic.{_↔_}
 use mathlib.Core.Option.{Option, none, some}
-use mathlib.Core.Path.{_≡_, refl, sym, ap, ap₂, _∙_}
+use mathlib.Core.Path.{_≡_, refl, sym, ap, ap₂, subst, _∙_}
 use Prim.Native.Nat.{ℕ, _*_, _≤_, _<_}
 use native.Mathlib.Omega.{arith}
 use lib.Dec.{ltb, eqb}
@@ -14,14 +16,14 @@ use borrow.Author.Tests.{eqb-true, eqb-false, ltb-false, not-false, le-ltb, eq-e
 use Rattle.laws.specs.Refusals.{refusal, orElse-second, orElse-none, refuse-no, refuse-none, refuseLeast-none}
 use Rattle.laws.specs.Search.{count, Refusal, refuse, refuseLeast, _orElse_}
 use Rattle.laws.specs.SearchLaws.{count-two}
-use Rattle.laws.specs.Tests.{by-eq, by-lt, differ, both, both-is}
-use Rattle.table.specs.Ancestry.{climb-root}
-use Rattle.table.specs.Children.{Child, childAt-test}
+use Rattle.laws.specs.Tests.{by-eq, by-lt, differ, both, both-is, trichotomy}
+use Rattle.table.specs.Ancestry.{climb-root, leads-in-n, leads-steps}
+use Rattle.table.specs.Children.{Nodes, Child, childAt-test, childAt-is}
 use Rattle.table.specs.declared.Limits.{Limits}
 use Rattle.table.specs.declared.Validity.{Validity}
 use Rattle.table.specs.declared.Validity.the-variants.{Accepted, Refused}
-use Rattle.table.specs.Table.{parent, rank, climb, children, strayParent, badRank, adrift, shapeFault, treeFault, tableFault, validity}
-use Rattle.table.specs.TableLaws.{Tree, stray-yes, bad-high, bad-shared, adrift-yes}
+use Rattle.table.specs.Table.{parent, rank, climb, leads, children, childAt, strayParent, badRank, adrift, shapeFault, treeFault, tableFault, validity}
+use Rattle.table.specs.TableLaws.{Tree, tree-ranked, stray-yes, bad-high, bad-shared, adrift-yes}
 
 ------------------------------------------------------------------------
 -- The shape
@@ -42,14 +44,16 @@ shaped L P R long work e =
     let lengths = not-false _ (refuse-none _ 3 0 (b .1)) in
     let c = both _ _ lengths in
     let d = both _ _ (c .1) in
-    let n : length P ≡ 0 → ⊥ = eqb-false _ _ (refuse-none _ 1 0 (a .0)) in
     record {
-      some = omega arith;
+      some = some-node (length P) (eqb-false _ _ (refuse-none _ 1 0 (a .0)));
       few = ltb-false _ _ (refuse-none _ (L .surplus) 0 (b .0));
       ranks = eqb-true _ _ (c .0);
       others = d .0;
       work-long = eqb-true _ _ (d .1);
     }
+  where
+    some-node : (n : ℕ) → (n ≡ 0 → ⊥) → 0 < n
+    some-node n ne = omega arith
 
 pub shape-fits : {L : Limits} {P R : List ℕ} {long : Bool} {work : ℕ} → Shape L P R long work
     → shapeFault L P R long work ≡ none
@@ -129,3 +133,30 @@ validity-refused (some r) k v e =
     let a : r .number ≡ k = cc in
     let b : r .node ≡ v = cc in
     ap₂ refusal a b
+
+------------------------------------------------------------------------
+-- Document 01's sentences about an accepted table
+
+-- the ranks of p's children are 0 to (number of children - 1), each used by one of them
+pub record RanksUsedOnce (P R : List ℕ) (p : ℕ) : Type 0 where
+  pub low : (v : ℕ) → v < length P → Child P p v → rank R v < children P p
+  pub used : (r : ℕ) → r < children P p → (v : ℕ) × (v < length P) × Child P p v × (rank R v ≡ r)
+  pub once : (v w : ℕ) → v < length P → w < length P → Child P p v → Child P p w → rank R v ≡ rank R w → v ≡ w
+
+pub ranks-used-once : {P R : List ℕ} → Tree P R → (p : ℕ) → RanksUsedOnce P R p
+ranks-used-once {P} {R} t p = record {
+  low = λ v l c. subst (λ (x : ℕ). rank R v < children P x) (c .up) (t .rank-low v (c .above) l);
+  used = λ r l.
+      let k = childAt-is P R (tree-ranked t) p r l in
+      (childAt P R p r, k .inside, record { above = k .above; up = k .up }, k .ranked);
+  once = λ v w l m c d e.
+      trichotomy v w (λ b. t .ranks-differ v w (c .above) b m (c .up ∙ sym (d .up)) e)
+      (λ b. t .ranks-differ w v (d .above) b l (d .up ∙ sym (c .up)) (sym e));
+}
+
+-- following parents from any node comes to node 0: some number of steps does so exactly when n steps do
+pub leads-when : {P : List ℕ} → Nodes P → (v : ℕ) → v < length P → (leads P v ≡ true) ↔ ((k : ℕ) × (climb P k v ≡ 0))
+leads-when {P} w v l = (
+  (λ e. (length P, leads-steps P v e)),
+  (λ k. leads-in-n P (w .root) (w .inside) v (k .0) l (k .1)),
+)

@@ -148,7 +148,8 @@ module _ (P R : List ℕ) (g : Ranked P R) where
   pub rank-used : (p r : ℕ) → r < children P p → (v : ℕ) × (v < length P) × (isChildAt P R p r v ≡ true)
   rank-used p r l =
       let one : count (isChildAt P R p r) (length P) ≡ 1 =
-      all-ones (λ (s : ℕ). count (isChildAt P R p s) (length P)) (children P p) (λ s m. one-child-a-rank p s) (all-ranks p)
+      all-ones (λ (s : ℕ). count (isChildAt P R p s) (length P)) (children P p) (λ s m. one-child-a-rank p s)
+      (all-ranks p)
       r l in
       count-some (isChildAt P R p r) (length P) (omega arith)
 

@@ -7,3 +7,4 @@ pub mod Acceptance
 pub mod Postorder
 pub mod Numbering
 pub mod Work
+pub mod Examples

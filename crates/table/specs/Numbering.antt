@@ -5,7 +5,10 @@
 --   numbering              == post numbers are a numbering
 --   climb-between          == a node's number lies between the first and the last of each subtree that it is in,
 --   between-climb             and is in each such subtree
+--   in-subtree             == both, by the test `under`
+use mathlib.Core.Bool.{true}
 use mathlib.Core.List.{List, [], _∷_, _++_}
+use mathlib.Core.Logic.{_↔_}
 use mathlib.Core.Path.{_≡_, refl, sym, ap, ap₂, subst, subst⁻¹, _∙_}
 use Prim.Native.Nat.{ℕ, zero, suc, _+_, _-_, _*_, _≤_, _<_}
 use native.Mathlib.Omega.{arith}
@@ -13,9 +16,10 @@ use lib.ListN.{length, getD, length-append, List·getD-append}
 use lib.Seq.{getD-at, getD-append-add}
 use Rattle.laws.specs.Sums.{sum-more, sum-mono, sum-term}
 use Rattle.laws.specs.Tests.{by-lt}
+use Rattle.table.specs.Ancestry.{under-steps, steps-under}
 use Rattle.table.specs.Children.{childAt-only, ChildAt}
 use Rattle.table.specs.Postorder.{size, ahead, Block, start, child-at, block-of, order-length, root-size, size-step, start-root, start-child, number-is, number-le, first-is, node-at, at-place, place-of-number}
-use Rattle.table.specs.Table.{parent, rank, climb, children, childAt, forest, postorder, subtree, order, postNumber, firstNumber}
+use Rattle.table.specs.Table.{parent, rank, climb, under, children, childAt, forest, postorder, subtree, order, postNumber, firstNumber}
 use Rattle.table.specs.TableLaws.{Tree, tree-ranked}
 
 pub record Numbering (P R : List ℕ) (number : ℕ → ℕ) : Type 0 where
@@ -43,7 +47,8 @@ module _ {P R : List ℕ} (t : Tree P R) where
   number-start v l = omega (arith, number-is t v l, size-step t v l)
 
   -- the block of the child of rank r, with what is before it among the children's
-  child-block : (v r : ℕ) → v < length P → r < children P v → start P R v + ahead P R v (r + 1) ≡ postNumber P R (childAt P R v r)
+  child-block : (v r : ℕ) → v < length P → r < children P v
+      → start P R v + ahead P R v (r + 1) ≡ postNumber P R (childAt P R v r)
   child-block v r l m =
       omega (
         arith,
@@ -52,11 +57,13 @@ module _ {P R : List ℕ} (t : Tree P R) where
         number-is t (childAt P R v r) (child-at t v r m .inside),
       )
 
-  pub last-child : (v r : ℕ) → v < length P → r + 1 ≡ children P v → postNumber P R (childAt P R v r) + 1 ≡ postNumber P R v
+  pub last-child : (v r : ℕ) → v < length P → r + 1 ≡ children P v
+      → postNumber P R (childAt P R v r) + 1 ≡ postNumber P R v
   last-child v r l e =
       omega (arith, child-block v r l (omega arith), ap (ahead P R v) e, size-step t v l, number-is t v l)
 
-  pub next-child : (v r : ℕ) → v < length P → r + 1 < children P v → start P R (childAt P R v (r + 1)) ≡ postNumber P R (childAt P R v r)
+  pub next-child : (v r : ℕ) → v < length P → r + 1 < children P v
+      → start P R (childAt P R v (r + 1)) ≡ postNumber P R (childAt P R v r)
   next-child v r l m = start-child t v (r + 1) l m ∙ child-block v r l (omega arith)
 
   pub first-child : (v : ℕ) → v < length P → 0 < children P v → start P R (childAt P R v 0) ≡ start P R v
@@ -80,16 +87,19 @@ module _ {P R : List ℕ} (t : Tree P R) where
     ),
   )
 
-  parent-inside : (v : ℕ) → 0 < v → v < length P → (start P R (parent P v) ≤ start P R v) × (postNumber P R v < postNumber P R (parent P v))
+  parent-inside : (v : ℕ) → 0 < v → v < length P
+      → (start P R (parent P v) ≤ start P R v) × (postNumber P R v < postNumber P R (parent P v))
   parent-inside v a l =
       subst (λ (z : ℕ). (start P R (parent P v) ≤ start P R z) × (postNumber P R z < postNumber P R (parent P v)))
-      (childAt-only P R (tree-ranked t) v a l) (child-inside (parent P v) (rank R v) (t .inside v l) (t .rank-low v a l))
+      (childAt-only P R (tree-ranked t) v a l)
+      (child-inside (parent P v) (rank R v) (t .inside v l) (t .rank-low v a l))
 
   ------------------------------------------------------------------------
   -- Subtrees are intervals of numbers
 
   climb-inside : (k z : ℕ) → z < length P
-      → (climb P k z < length P) × (start P R (climb P k z) ≤ start P R z) × (postNumber P R z ≤ postNumber P R (climb P k z))
+      → (climb P k z < length P) × (start P R (climb P k z) ≤ start P R z)
+      × (postNumber P R z ≤ postNumber P R (climb P k z))
   unfolding climb
   climb-inside zero z l = (l, omega arith, omega arith)
   climb-inside (suc k) z l =
@@ -102,12 +112,14 @@ module _ {P R : List ℕ} (t : Tree P R) where
       let root : parent P (climb P k z) ≡ climb P k z = ap (parent P) (omega arith) ∙ t .root ∙ omega arith in
       subst⁻¹ (λ (w : ℕ). (w < length P) × (start P R w ≤ start P R z) × (postNumber P R z ≤ postNumber P R w)) root c)
 
-  pub climb-between : (k z : ℕ) → z < length P → (start P R (climb P k z) < postNumber P R z) × (postNumber P R z ≤ postNumber P R (climb P k z))
+  pub climb-between : (k z : ℕ) → z < length P
+      → (start P R (climb P k z) < postNumber P R z) × (postNumber P R z ≤ postNumber P R (climb P k z))
   climb-between k z l = let c = climb-inside k z l in (omega (arith, c .1, number-start z l), c .2)
 
   -- an element of a forest is one of a tree in it
   forest-element : (a : ℕ → List ℕ) (child : ℕ → ℕ) (m j : ℕ) → j < length (forest a child m)
-      → (r : ℕ) × (i : ℕ) × (r < m) × (i < length (a (child r))) × (getD (forest a child m) j 0 ≡ getD (a (child r)) i 0)
+      → (r : ℕ) × (i : ℕ) × (r < m) × (i < length (a (child r)))
+      × (getD (forest a child m) j 0 ≡ getD (a (child r)) i 0)
   unfolding forest
   forest-element a child zero j l = absurd (omega arith)
   forest-element a child (suc m) j l =
@@ -126,7 +138,8 @@ module _ {P R : List ℕ} (t : Tree P R) where
             ∙ getD-append-add (forest a child m) (a (child m)) (j - length (forest a child m)) 0,
       ))
 
-  element-climb : (f v j : ℕ) → j < length (postorder P R f v) → (k : ℕ) × (climb P k (getD (postorder P R f v) j 0) ≡ v)
+  element-climb : (f v j : ℕ) → j < length (postorder P R f v)
+      → (k : ℕ) × (climb P k (getD (postorder P R f v) j 0) ≡ v)
   unfolding postorder climb
   element-climb zero v j l = absurd (omega arith)
   element-climb (suc f) v j l =
@@ -145,7 +158,8 @@ module _ {P R : List ℕ} (t : Tree P R) where
         getD-at trees v [] 0 j (omega (arith, length-append trees (v ∷ []))),
       ))
 
-  pub between-climb : (v z : ℕ) → v < length P → z < length P → start P R v < postNumber P R z → postNumber P R z ≤ postNumber P R v
+  pub between-climb : (v z : ℕ) → v < length P → z < length P → start P R v < postNumber P R z
+      → postNumber P R z ≤ postNumber P R v
       → (k : ℕ) × (climb P k z ≡ v)
   unfolding subtree
   between-climb v z lv lz low high =
@@ -153,7 +167,8 @@ module _ {P R : List ℕ} (t : Tree P R) where
       let n = place-of-number t z lz in
       let i : ℕ = postNumber P R z - 1 - start P R v in
       let inside : (postNumber P R z - 1 - start P R v) < size P R v = omega (arith, number-is t v lv) in
-      let at : postNumber P R z - 1 ≡ length (b .front) + (postNumber P R z - 1 - start P R v) = omega (arith, b .long) in
+      let at : postNumber P R z - 1 ≡ length (b .front) + (postNumber P R z - 1 - start P R v) =
+      omega (arith, b .long) in
       let is : getD (subtree P R v) (postNumber P R z - 1 - start P R v) 0 ≡ z =
       sym (List·getD-append (subtree P R v) (b .back) 0 _ inside)
       ∙ sym (getD-append-add (b .front) (subtree P R v ++ b .back) _ 0)
@@ -188,12 +203,15 @@ module _ {P R : List ℕ} (t : Tree P R) where
           let w : ℕ = parent P p in
           let r : ℕ = rank R p in
           let s : ℕ = rank R q in
-          let low : rank R q < children P (parent P p) = subst⁻¹ (λ (x : ℕ). rank R q < children P x) same (t .rank-low q aq lq) in
+          let low : rank R q < children P (parent P p) = subst⁻¹ (λ (x : ℕ). rank R q < children P x) same
+          (t .rank-low q aq lq) in
           let cp : childAt P R (parent P p) (rank R p) ≡ p = childAt-only P R (tree-ranked t) p ap lp in
           let cq : childAt P R (parent P p) (rank R q) ≡ q =
           subst⁻¹ (λ (x : ℕ). childAt P R x (rank R q) ≡ q) same (childAt-only P R (tree-ranked t) q aq lq) in
-          let up : postNumber P R y ≤ postNumber P R p = subst (λ (x : ℕ). postNumber P R y ≤ postNumber P R x) ey (climb-between j y ly .1) in
-          let down : start P R q < postNumber P R z = subst (λ (x : ℕ). start P R x < postNumber P R z) ez (climb-between k z lz .0) in
+          let up : postNumber P R y ≤ postNumber P R p = subst (λ (x : ℕ). postNumber P R y ≤ postNumber P R x) ey
+          (climb-between j y ly .1) in
+          let down : start P R q < postNumber P R z = subst (λ (x : ℕ). start P R x < postNumber P R z) ez
+          (climb-between k z lz .0) in
           let mid : postNumber P R p ≤ start P R q =
           subst (λ (x : ℕ). postNumber P R x ≤ start P R q) cp
           (subst (λ (x : ℕ). postNumber P R (childAt P R (parent P p) (rank R p)) ≤ start P R x) cq
@@ -206,6 +224,22 @@ module _ {P R : List ℕ} (t : Tree P R) where
           omega arith
 
   -- the node at place j of the order is the one with number j + 1
-  pub number-at : (j : ℕ) → j < length P → (getD (order P R) j 0 < length P) × (postNumber P R (getD (order P R) j 0) ≡ j + 1)
+  pub number-at : (j : ℕ) → j < length P
+      → (getD (order P R) j 0 < length P) × (postNumber P R (getD (order P R) j 0) ≡ j + 1)
   unfolding postNumber
   number-at j l = let p = at-place t j l in (p .0, omega (arith, p .1))
+
+  -- z is in v's subtree exactly when its number lies between v's first and last
+  pub in-subtree : (v z : ℕ) → v < length P → z < length P
+      → (under P v z ≡ true) ↔ ((firstNumber P R v ≤ postNumber P R z) × (postNumber P R z ≤ postNumber P R v))
+  in-subtree v z lv lz = (
+    (λ e.
+        let k = under-steps P v z e in
+        let b = climb-between (k .0) z lz in (
+          omega (arith, b .0, ap (start P R) (k .2), first-is t v lv),
+          omega (arith, b .1, ap (postNumber P R) (k .2)),
+        )),
+    (λ b.
+        let k = between-climb v z lv lz (omega (arith, b .0, first-is t v lv)) (b .1) in
+        steps-under P (t .inside) v z (k .0) lz (k .1)),
+  )

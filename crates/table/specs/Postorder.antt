@@ -66,7 +66,8 @@ pub record FirstPlace (v k : ℕ) (l : List ℕ) : Type 0 where
 pub first-place : (v k : ℕ) (l : List ℕ) → k < length l → getD l k 0 ≡ v → FirstPlace v k l
 unfolding place
 first-place v k [] m e = absurd (omega arith)
-first-place v zero (x ∷ l) m e = record { low = rw (eq-eqb v x (sym e)) (omega arith); here = rw (eq-eqb v x (sym e)) e }
+first-place v zero (x ∷ l) m e = record
+    { low = rw (eq-eqb v x (sym e)) (omega arith); here = rw (eq-eqb v x (sym e)) e }
 first-place v (suc k) (x ∷ l) m e =
     let f = first-place v k l (le-of-suc-le-suc m) e in
     by-eq v x
@@ -212,7 +213,8 @@ module _ {P R : List ℕ} (t : Tree P R) where
   block-last v b l s =
       let under = forest (subtree P R) (childAt P R v) (children P v) in
       ap (λ (z : List ℕ). getD z (b + ahead P R v (children P v)) 0)
-      (s .is ∙ ap (λ (z : List ℕ). s .front ++ (z ++ s .back)) (subtree-step v l) ∙ regroup (s .front) under v (s .back))
+      (s .is ∙ ap (λ (z : List ℕ). s .front ++ (z ++ s .back)) (subtree-step v l)
+      ∙ regroup (s .front) under v (s .back))
       ∙ getD-at (s .front ++ under) v (s .back) 0 _
       (length-append (s .front) under
       ∙ ap₂ (λ (x y : ℕ). x + y) (s .long) (forest-length (subtree P R) (childAt P R v) (children P v)))
@@ -236,12 +238,14 @@ module _ {P R : List ℕ} (t : Tree P R) where
       sym (stands v l .here) ∙ ap (λ (k : ℕ). getD (order P R) k 0) e ∙ stands w m .here
 
   -- the node at any place stands at that place first
-  pub at-place : (j : ℕ) → j < length P → (getD (order P R) j 0 < length P) × (place (getD (order P R) j 0) (order P R) ≡ j)
+  pub at-place : (j : ℕ) → j < length P
+      → (getD (order P R) j 0 < length P) × (place (getD (order P R) j 0) (order P R) ≡ j)
   at-place j l =
       let u =
       injective-onto (λ (v : ℕ). place v (order P R)) (length P) place-inside
       (λ v w a b e. absurd (omega (arith, places-differ v w (omega arith) b e))) j l in
-      let is : getD (order P R) j 0 ≡ u .0 = ap (λ (k : ℕ). getD (order P R) k 0) (sym (u .2)) ∙ stands (u .0) (u .1) .here in
+      let is : getD (order P R) j 0 ≡ u .0 = ap (λ (k : ℕ). getD (order P R) k 0) (sym (u .2))
+      ∙ stands (u .0) (u .1) .here in
       (subst⁻¹ (λ (v : ℕ). v < length P) is (u .1), ap (λ (v : ℕ). place v (order P R)) is ∙ u .2)
 
   block-number : (v b : ℕ) → v < length P → Block P R v b → postNumber P R v ≡ b + size P R v

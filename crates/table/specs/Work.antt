@@ -8,6 +8,7 @@
 --   Seating P R W v    == from n + 1 on: how many of the nodes below v stand in each slot
 --   Occupied P R W     == from n + 1 on: how many nodes share each node's slot
 --   Slotted P R W      == from n + 1 on: the node in each slot
+--   Visited P R W c    == the nodes with numbers up to c have their first numbers at 2n, and stand in order at 3n
 --   marked P W v       == the mark of v, at n + v, is set; that of node 0 is the number of all slots
 --   Marking P W        == node 0 is marked, and whoever is marked leads to node 0
 --   Reaching P W v k   == a climb of k steps from v comes to a marked node, and no shorter one does
@@ -25,7 +26,7 @@ use Rattle.table.specs.Children.{Nodes, slot}
 use Rattle.table.specs.declared.Limits.{Limits}
 use Rattle.table.specs.declared.Validity.{Validity}
 use Rattle.table.specs.declared.Validity.the-variants.{Accepted}
-use Rattle.table.specs.Table.{parent, rank, climb, children, isChildAt, shapeFault, treeFault, tableFault, validity}
+use Rattle.table.specs.Table.{parent, rank, climb, children, isChildAt, order, postNumber, firstNumber, shapeFault, treeFault, tableFault, validity}
 use Rattle.table.specs.TableLaws.{Tree}
 
 pub record Scratch (P W : List ℕ) : Type 0 where
@@ -107,3 +108,24 @@ pub record Ready (P R W : List ℕ) : Type 0 where
   pub few : length P < 2 ^ 32
   pub long : length W ≡ 4 * length P
   pub started : Started P W
+
+-- the first slots and the slots, for the walk
+pub record Seated (P R W : List ℕ) : Type 0 where
+  pub ready : Ready P R W
+  pub slotted : Slotted P R W
+
+-- the nodes with numbers up to c are visited: their first numbers at 2n, and the start of the order at 3n
+pub record Visited (P R W : List ℕ) (c : ℕ) : Type 0 where
+  pub seated : Seated P R W
+  pub first : (u : ℕ) → u < length P → postNumber P R u ≤ c → getD W (2 * length P + u) 0 ≡ firstNumber P R u
+  pub node : (j : ℕ) → j < c → getD W (3 * length P + j) 0 ≡ getD (order P R) j 0
+
+-- u comes first in v's subtree
+pub record Leftmost (P R : List ℕ) (v u : ℕ) : Type 0 where
+  pub inside : u < length P
+  pub number : postNumber P R u ≡ firstNumber P R v
+
+-- u comes next after v
+pub record Next (P R : List ℕ) (v u : ℕ) : Type 0 where
+  pub inside : u < length P
+  pub number : postNumber P R u ≡ postNumber P R v + 1

@@ -9,9 +9,9 @@ ghost use Prim.Native.Nat.{ℕ, _+_, _*_, _^_, _≤_, _<_};
 ghost use lib.ListN.{length, getD, set};
 ghost use Rattle.laws.specs.Regions.{Only};
 ghost use Rattle.laws.specs.Search.{least};
-ghost use Rattle.table.specs.Children.{Ranked};
-ghost use Rattle.table.specs.Table.{climb, strayParent, badRank, adrift};
-ghost use Rattle.table.specs.Work.{Scratch, Zeroed, Tallied, Started, Seating, Occupied, marked, Marking, Reaching, Shaped, Structured, Validated, Ready};
+ghost use Rattle.table.specs.Table.{climb, postNumber, strayParent, badRank, adrift};
+ghost use Rattle.table.specs.Work.{Scratch, Zeroed, Tallied, Started, Seating, Occupied, marked, Marking, Reaching, Shaped, Structured, Validated, Ready, Seated, Leftmost, Next, Visited};
+ghost use Rattle.table.specs.Numbering.{Numbered};
 
 // What a call accepts: the most nodes with the number that refuses more, and the largest place with the number that
 // refuses one beyond it.
@@ -244,7 +244,13 @@ fn structure(parent: &[u32], rank: &[u32], work: &mut [u32]) -> Validity
 }
 // Refusals 1 to 7 at the limits, where `long` says that the lists lent besides are as long as the parent list. Only the
 // first 2n numbers of the work list change, and none on a refusal before 4.
-pub fn validate(limits: Limits, parent: &[u32], rank: &[u32], long: bool, work: &mut [u32]) -> Validity
+pub fn validate(
+    limits: Limits,
+    parent: &[u32],
+    rank: &[u32],
+    long: bool,
+    work: &mut [u32],
+) -> Validity
     ensures { λ r. ⌜ Validated limits (now (parent .entry)) (now (rank .entry)) long (now (work .entry)) (now (work .exit)) r ⌝ }
 {
     let n = parent.len();
@@ -271,4 +277,108 @@ pub fn validate(limits: Limits, parent: &[u32], rank: &[u32], long: bool, work: 
         return Validity::Refused(4, 0);
     }
     structure(parent, rank, work)
+}
+
+// Puts each node into its slot.
+fn fill(parent: &[u32], rank: &[u32], work: &mut [u32])
+    requires { ⌜ Ready (now parent) (now rank) (now work) ⌝ }
+    ensures { λ _. ⌜ Seated (now (parent .entry)) (now (rank .entry)) (now (work .exit)) ⌝ }
+{
+    let n = parent.len();
+    let mut v = 1;
+    while v < n {
+        let p = get(parent, v);
+        let r = get(rank, v);
+        let s = get(work, p) + r;
+        put(work, n + 1 + s, v);
+        v += 1;
+    }
+}
+
+// The node that comes first in v's subtree: by first children down to a leaf.
+fn leaf(parent: &[u32], rank: &[u32], work: &[u32], v: usize) -> usize
+    requires { ⌜ Seated (now parent) (now rank) (now work) × (v < length (now parent)) ⌝ }
+    ensures { λ r. ⌜ Leftmost (now (parent .entry)) (now (rank .entry)) v r ⌝ }
+{
+    let n = parent.len();
+    let mut u = v;
+    let mut s = get(work, u);
+    while s < get(work, u + 1) {
+        u = get(work, n + 1 + s);
+        s = get(work, u);
+    }
+    u
+}
+
+// The node that comes after v: the first in the next sibling's subtree, or the parent after the last sibling.
+fn next(parent: &[u32], rank: &[u32], work: &[u32], v: usize) -> usize
+    requires { ⌜ Seated (now parent) (now rank) (now work) × (0 < v) × (v < length (now parent)) ⌝ }
+    ensures { λ r. ⌜ Next (now (parent .entry)) (now (rank .entry)) v r ⌝ }
+{
+    let n = parent.len();
+    let p = get(parent, v);
+    let r = get(rank, v);
+    let s = get(work, p) + r + 1;
+    if get(work, p + 1) <= s {
+        return p;
+    }
+    let u = get(work, n + 1 + s);
+    leaf(parent, rank, work, u)
+}
+
+// Notes v as number c + 1, with its subtree's first number: its first child's, or its own at a leaf.
+fn visit(parent: &[u32], rank: &[u32], work: &mut [u32], v: usize, c: usize)
+    requires { ⌜ Visited (now parent) (now rank) (now work) c × (v < length (now parent)) × (postNumber (now parent) (now rank) v ≡ c + 1) ⌝ }
+    ensures { λ _. ⌜ Visited (now (parent .entry)) (now (rank .entry)) (now (work .exit)) (c + 1) ⌝ }
+{
+    let n = parent.len();
+    put(work, 3 * n + c, v);
+    let s = get(work, v);
+    if get(work, v + 1) <= s {
+        put(work, 2 * n + v, c + 1);
+        return;
+    }
+    let u = get(work, n + 1 + s);
+    let f = get(work, 2 * n + u);
+    put(work, 2 * n + v, f);
+}
+
+// Visits every node in post-order.
+fn walk(parent: &[u32], rank: &[u32], work: &mut [u32])
+    requires { ⌜ Seated (now parent) (now rank) (now work) ⌝ }
+    ensures { λ _. ⌜ Visited (now (parent .entry)) (now (rank .entry)) (now (work .exit)) (length (now (parent .entry))) ⌝ }
+{
+    let n = parent.len();
+    let mut v = leaf(parent, rank, work, 0);
+    let mut c = 0;
+    while c + 1 < n {
+        visit(parent, rank, work, v, c);
+        v = next(parent, rank, work, v);
+        c += 1;
+    }
+    visit(parent, rank, work, v, c);
+}
+
+// The post number of each node, from the order.
+fn invert(parent: &[u32], rank: &[u32], work: &mut [u32])
+    requires { ⌜ Visited (now parent) (now rank) (now work) (length (now parent)) ⌝ }
+    ensures { λ _. ⌜ Numbered (now (parent .entry)) (now (rank .entry)) (now (work .exit)) ⌝ }
+{
+    let n = parent.len();
+    let mut j = 0;
+    while j < n {
+        let v = get(work, 3 * n + j);
+        put(work, v, j + 1);
+        j += 1;
+    }
+}
+
+// Numbers an accepted table, on the work list that `validate` left.
+pub fn number(parent: &[u32], rank: &[u32], work: &mut [u32])
+    requires { ⌜ Ready (now parent) (now rank) (now work) ⌝ }
+    ensures { λ _. ⌜ Numbered (now (parent .entry)) (now (rank .entry)) (now (work .exit)) ⌝ }
+{
+    fill(parent, rank, work);
+    walk(parent, rank, work);
+    invert(parent, rank, work);
 }

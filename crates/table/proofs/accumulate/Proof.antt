@@ -49,10 +49,14 @@ put-requires c κs =
     let at-get = at-get2 .before .before in
     let at-loop-test = at-get .before .before in
     let at-loop = at-loop-test .before in
-    let at-entry = at-loop .before .before .before in
-    (
+    let at-entry = at-loop .before .before .before in (
       accumulating-in (at-entry .pre .0) (at-loop .loop .inv) (at-loop-test .loop-test .taken),
-      omega (arith, accumulating-few (at-entry .pre .0) (at-loop .loop .inv) (at-loop-test .loop-test .taken) (at-get .get .ensures .0) (at-get2 .get2 .ensures .0), at-entry .pre .0 .few),
+      omega (
+        arith,
+        accumulating-few (at-entry .pre .0) (at-loop .loop .inv) (at-loop-test .loop-test .taken)
+            (at-get .get .ensures .0) (at-get2 .get2 .ensures .0),
+        at-entry .pre .0 .few,
+      ),
     )
 
 add-p : tie.Need-add-p Inv-loop μ-loop
@@ -69,7 +73,8 @@ loop-again c =
     let at-loop-test = at-get .before .before in
     let at-loop = at-loop-test .before in
     let at-entry = at-loop .before .before .before in
-    accumulating-step (at-entry .pre .0) (at-loop .loop .inv) (at-loop-test .loop-test .taken) (at-get .get .ensures .0) (at-get2 .get2 .ensures .0) (at-put .put .ensures)
+    accumulating-step (at-entry .pre .0) (at-loop .loop .inv) (at-loop-test .loop-test .taken)
+    (at-get .get .ensures .0) (at-get2 .get2 .ensures .0) (at-put .put .ensures)
 
 same-length : tie.Need-same-length Inv-loop μ-loop
 same-length c =

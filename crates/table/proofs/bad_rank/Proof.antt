@@ -30,7 +30,12 @@ get-requires-3 c κs =
     let at-get = c .before in
     let at-loop-test = at-get .before in
     let at-entry = at-loop-test .before .before .before .before .before in
-    omega (arith, at-entry .pre .0 .0 .nodes .inside _ (at-loop-test .loop-test .taken), at-entry .pre .0 .0 .room, at-get .get .ensures)
+    omega (
+      arith,
+      at-entry .pre .0 .0 .nodes .inside _ (at-loop-test .loop-test .taken),
+      at-entry .pre .0 .0 .room,
+      at-get .get .ensures,
+    )
 
 add-s : tie.Need-add-s Inv-loop μ-loop
 add-s c =
@@ -47,7 +52,12 @@ get-requires-4 c κs =
     let at-get = c .before .before in
     let at-loop-test = at-get .before in
     let at-entry = at-loop-test .before .before .before .before .before in
-    omega (arith, at-entry .pre .0 .0 .nodes .inside _ (at-loop-test .loop-test .taken), at-entry .pre .0 .0 .room, at-get .get .ensures)
+    omega (
+      arith,
+      at-entry .pre .0 .0 .nodes .inside _ (at-loop-test .loop-test .taken),
+      at-entry .pre .0 .0 .room,
+      at-get .get .ensures,
+    )
 
 returns : tie.Need-returns Inv-loop μ-loop
 returns c =
@@ -58,8 +68,10 @@ returns c =
     let at-loop-test = at-get .before in
     let at-loop = at-loop-test .before in
     let at-entry = at-loop .before .before .before .before in
-    ranking-high (at-entry .pre .0 .0) (at-entry .pre .1 .0) (at-entry .pre .1 .1) (at-loop .loop .inv) (at-loop-test .loop-test .taken)
-    (turn (at-get .get .ensures .0) (at-get2 .get2 .ensures .0) (at-get3 .get3 .ensures .0) (at-get4 .get4 .ensures .0)) (c .if1 .taken)
+    ranking-high (at-entry .pre .0 .0) (at-entry .pre .1 .0) (at-entry .pre .1 .1) (at-loop .loop .inv)
+    (at-loop-test .loop-test .taken)
+    (turn (at-get .get .ensures .0) (at-get2 .get2 .ensures .0) (at-get3 .get3 .ensures .0)
+    (at-get4 .get4 .ensures .0)) (c .if1 .taken)
 
 add-get-2 : tie.Need-add-get-2 Inv-loop μ-loop
 add-get-2 c = omega arith
@@ -78,8 +90,10 @@ get-requires-5 c κs =
     let at-get = at-get2 .before in
     let at-loop-test = at-get .before in
     let at-entry = at-loop-test .before .before .before .before .before in
-    seat-room {R = at-entry .args .rank .now} (at-entry .pre .0 .0) (at-entry .pre .1 .0) (at-loop-test .loop-test .taken)
-    (turn (at-get .get .ensures .0) (at-get2 .get2 .ensures .0) (at-get3 .get3 .ensures .0) (at-get4 .get4 .ensures .0)) (c .if1 .left)
+    seat-room {R = at-entry .args .rank .now} (at-entry .pre .0 .0) (at-entry .pre .1 .0)
+    (at-loop-test .loop-test .taken)
+    (turn (at-get .get .ensures .0) (at-get2 .get2 .ensures .0) (at-get3 .get3 .ensures .0)
+    (at-get4 .get4 .ensures .0)) (c .if1 .left)
 
 returns-2 : tie.Need-returns-2 Inv-loop μ-loop
 returns-2 c =
@@ -92,8 +106,10 @@ returns-2 c =
     let at-loop-test = at-get .before in
     let at-loop = at-loop-test .before in
     let at-entry = at-loop .before .before .before .before in
-    ranking-shared (at-entry .pre .0 .0) (at-entry .pre .1 .0) (at-entry .pre .1 .1) (at-loop .loop .inv) (at-loop-test .loop-test .taken)
-    (turn (at-get .get .ensures .0) (at-get2 .get2 .ensures .0) (at-get3 .get3 .ensures .0) (at-get4 .get4 .ensures .0)) (at-if1 .if1 .left) (at-get5 .get5 .ensures .0) (c .if2 .taken)
+    ranking-shared (at-entry .pre .0 .0) (at-entry .pre .1 .0) (at-entry .pre .1 .1) (at-loop .loop .inv)
+    (at-loop-test .loop-test .taken)
+    (turn (at-get .get .ensures .0) (at-get2 .get2 .ensures .0) (at-get3 .get3 .ensures .0)
+    (at-get4 .get4 .ensures .0)) (at-if1 .if1 .left) (at-get5 .get5 .ensures .0) (c .if2 .taken)
 
 add-v : tie.Need-add-v Inv-loop μ-loop
 add-v c = omega arith
@@ -112,8 +128,10 @@ loop-again c =
     let at-loop-test = at-get .before in
     let at-loop = at-loop-test .before in
     let at-entry = at-loop .before .before .before .before in
-    ranking-step (at-entry .pre .0 .0) (at-entry .pre .1 .0) (at-entry .pre .1 .1) (at-loop .loop .inv) (at-loop-test .loop-test .taken)
-    (turn (at-get .get .ensures .0) (at-get2 .get2 .ensures .0) (at-get3 .get3 .ensures .0) (at-get4 .get4 .ensures .0)) (at-if1 .if1 .left) (at-get5 .get5 .ensures .0) (c .if2 .left)
+    ranking-step (at-entry .pre .0 .0) (at-entry .pre .1 .0) (at-entry .pre .1 .1) (at-loop .loop .inv)
+    (at-loop-test .loop-test .taken)
+    (turn (at-get .get .ensures .0) (at-get2 .get2 .ensures .0) (at-get3 .get3 .ensures .0)
+    (at-get4 .get4 .ensures .0)) (at-if1 .if1 .left) (at-get5 .get5 .ensures .0) (c .if2 .left)
 
 returns-3 : tie.Need-returns-3 Inv-loop μ-loop
 returns-3 c =

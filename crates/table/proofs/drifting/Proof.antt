@@ -32,8 +32,11 @@ returns : tie.Need-returns Inv-loop μ-loop
 returns c =
     let at-steps = c .before in
     let at-loop-test = at-steps .before .before in
-    let at-loop = at-loop-test .before in
-    (drifting-found (at-loop .loop .inv) (at-loop-test .loop-test .taken) (at-steps .steps .ensures) (c .if1 .taken), at-loop .loop .inv .kept)
+    let at-loop = at-loop-test .before in (
+      drifting-found (at-loop .loop .inv) (at-loop-test .loop-test .taken) (at-steps .steps .ensures)
+          (c .if1 .taken),
+      at-loop .loop .inv .kept,
+    )
 
 mark-requires : tie.Need-mark-requires Inv-loop μ-loop
 mark-requires c κs =
@@ -41,7 +44,8 @@ mark-requires c κs =
     let at-steps = at-if1 .before in
     let at-loop-test = at-steps .before .before in
     let at-loop = at-loop-test .before in
-    drifting-reaches (at-loop .loop .inv) (at-loop-test .loop-test .taken) (at-steps .steps .ensures) (at-if1 .if1 .left)
+    drifting-reaches (at-loop .loop .inv) (at-loop-test .loop-test .taken) (at-steps .steps .ensures)
+    (at-if1 .if1 .left)
 
 add-v : tie.Need-add-v Inv-loop μ-loop
 add-v c = omega arith
@@ -55,7 +59,8 @@ loop-again c =
     let at-steps = at-mark .before .before .before in
     let at-loop-test = at-steps .before .before in
     let at-loop = at-loop-test .before in
-    drifting-step (at-loop .loop .inv) (at-loop-test .loop-test .taken) (at-steps .steps .ensures) (at-mark .mark .ensures)
+    drifting-step (at-loop .loop .inv) (at-loop-test .loop-test .taken) (at-steps .steps .ensures)
+    (at-mark .mark .ensures)
 
 same-length-2 : tie.Need-same-length-2 Inv-loop μ-loop
 same-length-2 c =

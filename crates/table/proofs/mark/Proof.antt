@@ -48,7 +48,8 @@ loop-again c =
     let at-loop-test = at-put .before .before in
     let at-loop = at-loop-test .before in
     let at-entry = at-loop .before .before .before in
-    passing-step (at-entry .pre) (at-loop .loop .inv) (at-loop-test .loop-test .taken) (at-put .put .ensures) (c .get .ensures .0)
+    passing-step (at-entry .pre) (at-loop .loop .inv) (at-loop-test .loop-test .taken) (at-put .put .ensures)
+    (c .get .ensures .0)
 
 same-length : tie.Need-same-length Inv-loop μ-loop
 same-length c =

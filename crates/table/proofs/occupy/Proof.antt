@@ -9,15 +9,19 @@ use Rattle.table.proofs.occupy.Statement.{statement}
 use Rattle.table.proofs.occupy.Tie as tie
 
 abbrev Inv-loop : tie.InvT-loop
-Inv-loop parent rank work₀ n v₀ work v = Seating parent rank work v × (v ≤ length parent) × Only (length parent + 1) (2 * length parent) work₀ work
+Inv-loop parent rank work₀ n v₀ work v =
+    Seating parent rank work v × (v ≤ length parent) × Only (length parent + 1) (2 * length parent) work₀ work
 
 abbrev μ-loop : tie.MeasureT-loop
 μ-loop parent rank work₀ n v₀ work v = length parent - v
 
 loop-holds : tie.Need-loop-holds Inv-loop μ-loop
 loop-holds c =
-    let at-entry = c .before .before .before in
-    (seating-start (at-entry .pre .0 .0) (at-entry .pre .0 .1) (at-entry .pre .1 .0) (at-entry .pre .1 .1), at-entry .pre .0 .0 .nodes .some, only-refl _ _ _)
+    let at-entry = c .before .before .before in (
+      seating-start (at-entry .pre .0 .0) (at-entry .pre .0 .1) (at-entry .pre .1 .0) (at-entry .pre .1 .1),
+      at-entry .pre .0 .0 .nodes .some,
+      only-refl _ _ _,
+    )
 
 seat-requires : tie.Need-seat-requires Inv-loop μ-loop
 seat-requires c κs =

@@ -43,9 +43,10 @@ returns c =
     let at-get3 = at-get4 .before .before in
     let at-get2 = at-get3 .before .before in
     let at-get = at-get2 .before in
-    let at-entry = at-get .before .before .before .before in
-    (
-      seating-none (at-entry .pre .0) (at-entry .pre .1) (turn (at-get .get .ensures .0) (at-get2 .get2 .ensures .0) (at-get3 .get3 .ensures .0) (at-get4 .get4 .ensures .0)) (c .if1 .taken),
+    let at-entry = at-get .before .before .before .before in (
+      seating-none (at-entry .pre .0) (at-entry .pre .1)
+          (turn (at-get .get .ensures .0) (at-get2 .get2 .ensures .0) (at-get3 .get3 .ensures .0)
+          (at-get4 .get4 .ensures .0)) (c .if1 .taken),
       only-refl _ _ _,
     )
 
@@ -66,7 +67,9 @@ get-requires-5 c κs =
     let at-get2 = at-get3 .before .before in
     let at-get = at-get2 .before in
     let at-entry = at-get .before .before .before .before in
-    seat-room {R = at-entry .args .rank .now} (at-entry .pre .0 .scratch) (at-entry .pre .0 .started) (at-entry .pre .1) (turn (at-get .get .ensures .0) (at-get2 .get2 .ensures .0) (at-get3 .get3 .ensures .0) (at-get4 .get4 .ensures .0)) (at-if1 .if1 .left)
+    seat-room {R = at-entry .args .rank .now} (at-entry .pre .0 .scratch) (at-entry .pre .0 .started)
+    (at-entry .pre .1) (turn (at-get .get .ensures .0) (at-get2 .get2 .ensures .0) (at-get3 .get3 .ensures .0)
+    (at-get4 .get4 .ensures .0)) (at-if1 .if1 .left)
 
 add-put : tie.Need-add-put
 add-put c = omega arith
@@ -90,12 +93,15 @@ put-requires c κs =
     let at-get3 = at-get4 .before .before in
     let at-get2 = at-get3 .before .before in
     let at-get = at-get2 .before in
-    let at-entry = at-get .before .before .before .before in
-    (
-      seat-room {R = at-entry .args .rank .now} (at-entry .pre .0 .scratch) (at-entry .pre .0 .started) (at-entry .pre .1) (turn (at-get .get .ensures .0) (at-get2 .get2 .ensures .0) (at-get3 .get3 .ensures .0) (at-get4 .get4 .ensures .0)) (at-if1 .if1 .left),
+    let at-entry = at-get .before .before .before .before in (
+      seat-room {R = at-entry .args .rank .now} (at-entry .pre .0 .scratch) (at-entry .pre .0 .started)
+          (at-entry .pre .1) (turn (at-get .get .ensures .0) (at-get2 .get2 .ensures .0) (at-get3 .get3 .ensures .0)
+          (at-get4 .get4 .ensures .0)) (at-if1 .if1 .left),
       omega (
         arith,
-        seating-few (at-entry .pre .0) (at-entry .pre .1) (turn (at-get .get .ensures .0) (at-get2 .get2 .ensures .0) (at-get3 .get3 .ensures .0) (at-get4 .get4 .ensures .0)) (at-if1 .if1 .left) (at-get5 .get5 .ensures .0),
+        seating-few (at-entry .pre .0) (at-entry .pre .1)
+            (turn (at-get .get .ensures .0) (at-get2 .get2 .ensures .0) (at-get3 .get3 .ensures .0)
+            (at-get4 .get4 .ensures .0)) (at-if1 .if1 .left) (at-get5 .get5 .ensures .0),
         at-entry .pre .0 .scratch .few,
       ),
     )
@@ -113,7 +119,9 @@ returns-2 c =
     let at-get2 = at-get3 .before .before in
     let at-get = at-get2 .before in
     let at-entry = at-get .before .before .before .before in
-    seating-step (at-entry .pre .0) (at-entry .pre .1) (turn (at-get .get .ensures .0) (at-get2 .get2 .ensures .0) (at-get3 .get3 .ensures .0) (at-get4 .get4 .ensures .0)) (at-if1 .if1 .left) (at-get5 .get5 .ensures .0) (at-put .put .ensures)
+    seating-step (at-entry .pre .0) (at-entry .pre .1)
+    (turn (at-get .get .ensures .0) (at-get2 .get2 .ensures .0) (at-get3 .get3 .ensures .0)
+    (at-get4 .get4 .ensures .0)) (at-if1 .if1 .left) (at-get5 .get5 .ensures .0) (at-put .put .ensures)
 
 pub seat-spec : {M : Type 1} → statement M
 seat-spec =

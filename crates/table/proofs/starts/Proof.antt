@@ -21,8 +21,7 @@ accumulate-requires : tie.Need-accumulate-requires
 accumulate-requires c κs =
     let at-tally = c .before .before .before in
     let at-clear = at-tally .before .before .before .before in
-    let at-entry = at-clear .before .before .before .before in
-    (
+    let at-entry = at-clear .before .before .before .before in (
       scratch-kept (at-entry .pre) (at-tally .tally .ensures .1 .long ∙ at-clear .clear .ensures .1 .long),
       at-tally .tally .ensures .0,
     )
@@ -36,7 +35,8 @@ returns c =
     let at-tally = at-accumulate .before .before .before .before in
     let at-clear = at-tally .before .before .before .before in
     let at-entry = at-clear .before .before .before .before in
-    started-all (at-entry .pre) (at-clear .clear .ensures) (at-tally .tally .ensures) (at-accumulate .accumulate .ensures)
+    started-all (at-entry .pre) (at-clear .clear .ensures) (at-tally .tally .ensures)
+    (at-accumulate .accumulate .ensures)
 
 pub starts-spec : {M : Type 1} → statement M
 starts-spec =

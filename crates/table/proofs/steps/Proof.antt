@@ -34,7 +34,8 @@ returns c =
     let at-loop-test = at-get .before in
     let at-loop = at-loop-test .before in
     let at-entry = at-loop .before .before .before in
-    stepping-found (at-entry .pre .0) (at-loop .loop .inv) (at-loop-test .loop-test .taken) (at-get .get .ensures .0) (c .if1 .taken)
+    stepping-found (at-entry .pre .0) (at-loop .loop .inv) (at-loop-test .loop-test .taken)
+    (at-get .get .ensures .0) (c .if1 .taken)
 
 get-requires-2 : tie.Need-get-requires-2 Inv-loop μ-loop
 get-requires-2 c κs =
@@ -54,7 +55,8 @@ loop-again c =
     let at-loop-test = at-get .before in
     let at-loop = at-loop-test .before in
     let at-entry = at-loop .before .before .before in
-    stepping-step (at-entry .pre .0) (at-loop .loop .inv) (at-loop-test .loop-test .taken) (at-get .get .ensures .0) (at-if1 .if1 .left) (c .get2 .ensures .0)
+    stepping-step (at-entry .pre .0) (at-loop .loop .inv) (at-loop-test .loop-test .taken)
+    (at-get .get .ensures .0) (at-if1 .if1 .left) (c .get2 .ensures .0)
 
 returns-2 : tie.Need-returns-2 Inv-loop μ-loop
 returns-2 c =

@@ -35,9 +35,12 @@ occupy-requires c κs =
     let at-starts = c .before .before .before in
     let at-if1 = at-starts .before .before in
     let at-stray-parent = at-if1 .before in
-    let at-entry = at-stray-parent .before .before .before .before in
-    (
-      (scratch-kept (scratch-of (at-entry .pre) (at-stray-parent .stray-parent .ensures) (at-if1 .if1 .left)) (at-starts .starts .ensures .2 .long), at-entry .pre .ranks),
+    let at-entry = at-stray-parent .before .before .before .before in (
+      (
+        scratch-kept (scratch-of (at-entry .pre) (at-stray-parent .stray-parent .ensures) (at-if1 .if1 .left))
+            (at-starts .starts .ensures .2 .long),
+        at-entry .pre .ranks,
+      ),
       (at-starts .starts .ensures .0, at-starts .starts .ensures .1),
     )
 
@@ -47,18 +50,23 @@ bad-rank-requires c κs =
     let at-starts = at-occupy .before .before .before .before in
     let at-if1 = at-starts .before .before in
     let at-stray-parent = at-if1 .before in
-    let at-entry = at-stray-parent .before .before .before .before in
-    (
+    let at-entry = at-stray-parent .before .before .before .before in (
       (
-        scratch-kept (scratch-of (at-entry .pre) (at-stray-parent .stray-parent .ensures) (at-if1 .if1 .left)) (at-occupy .occupy .ensures .1 .long ∙ at-starts .starts .ensures .2 .long),
+        scratch-kept (scratch-of (at-entry .pre) (at-stray-parent .stray-parent .ensures) (at-if1 .if1 .left))
+            (at-occupy .occupy .ensures .1 .long ∙ at-starts .starts .ensures .2 .long),
         at-entry .pre .ranks,
       ),
-      (started-kept (at-entry .pre) (at-stray-parent .stray-parent .ensures) (at-if1 .if1 .left) (at-starts .starts .ensures) (at-occupy .occupy .ensures), at-occupy .occupy .ensures .0),
+      (
+        started-kept (at-entry .pre) (at-stray-parent .stray-parent .ensures) (at-if1 .if1 .left)
+            (at-starts .starts .ensures) (at-occupy .occupy .ensures),
+        at-occupy .occupy .ensures .0,
+      ),
     )
 
 cast-t17 : tie.Need-cast-t17
 cast-t17 c =
-    let at-entry = c .before .before .before .before .before .before .before .before .before .before .before .before .before .before .before .before in
+    let at-entry =
+    c .before .before .before .before .before .before .before .before .before .before .before .before .before .before .before .before in
     omega (arith, at-entry .pre .few)
 
 same-length : tie.Need-same-length
@@ -69,7 +77,9 @@ same-length c =
     let at-if1 = at-starts .before .before in
     let at-stray-parent = at-if1 .before in
     let at-entry = at-stray-parent .before .before .before .before in
-    structured-6 (at-entry .pre) (at-stray-parent .stray-parent .ensures) (at-if1 .if1 .left) (at-starts .starts .ensures) (at-occupy .occupy .ensures) (at-bad-rank .bad-rank .ensures) (c .if2 .taken) .kept .long
+    structured-6 (at-entry .pre) (at-stray-parent .stray-parent .ensures) (at-if1 .if1 .left)
+    (at-starts .starts .ensures) (at-occupy .occupy .ensures) (at-bad-rank .bad-rank .ensures)
+    (c .if2 .taken) .kept .long
 
 returns-2 : tie.Need-returns-2
 returns-2 c =
@@ -79,24 +89,29 @@ returns-2 c =
     let at-if1 = at-starts .before .before in
     let at-stray-parent = at-if1 .before in
     let at-entry = at-stray-parent .before .before .before .before in
-    structured-6 (at-entry .pre) (at-stray-parent .stray-parent .ensures) (at-if1 .if1 .left) (at-starts .starts .ensures) (at-occupy .occupy .ensures) (at-bad-rank .bad-rank .ensures) (c .if2 .taken)
+    structured-6 (at-entry .pre) (at-stray-parent .stray-parent .ensures) (at-if1 .if1 .left)
+    (at-starts .starts .ensures) (at-occupy .occupy .ensures) (at-bad-rank .bad-rank .ensures) (c .if2 .taken)
 
 add-clear : tie.Need-add-clear
 add-clear c =
-    let at-entry = c .before .before .before .before .before .before .before .before .before .before .before .before .before .before .before .before .before in
+    let at-entry =
+    c .before .before .before .before .before .before .before .before .before .before .before .before .before .before .before .before .before in
     omega (arith, at-entry .pre .few)
 
 mul-clear : tie.Need-mul-clear
 mul-clear c =
-    let at-entry = c .before .before .before .before .before .before .before .before .before .before .before .before .before .before .before .before .before in
+    let at-entry =
+    c .before .before .before .before .before .before .before .before .before .before .before .before .before .before .before .before .before in
     omega (arith, at-entry .pre .few)
 
 clear-requires : tie.Need-clear-requires
 clear-requires c κs =
     let at-occupy = c .before .before .before .before .before .before in
     let at-starts = at-occupy .before .before .before .before in
-    let at-entry = at-starts .before .before .before .before .before .before .before in
-    (omega (arith, at-entry .pre .some), omega (arith, at-entry .pre .long, at-occupy .occupy .ensures .1 .long, at-starts .starts .ensures .2 .long))
+    let at-entry = at-starts .before .before .before .before .before .before .before in (
+      omega (arith, at-entry .pre .some),
+      omega (arith, at-entry .pre .long, at-occupy .occupy .ensures .1 .long, at-starts .starts .ensures .2 .long),
+    )
 
 drifting-requires : tie.Need-drifting-requires
 drifting-requires c κs =
@@ -106,16 +121,19 @@ drifting-requires c κs =
     let at-if1 = at-starts .before .before in
     let at-stray-parent = at-if1 .before in
     let at-entry = at-stray-parent .before .before .before .before in
-    let started = started-kept (at-entry .pre) (at-stray-parent .stray-parent .ensures) (at-if1 .if1 .left) (at-starts .starts .ensures) (at-occupy .occupy .ensures) in (
+    let started = started-kept (at-entry .pre) (at-stray-parent .stray-parent .ensures) (at-if1 .if1 .left)
+    (at-starts .starts .ensures) (at-occupy .occupy .ensures) in (
       scratch-kept (scratch-of (at-entry .pre) (at-stray-parent .stray-parent .ensures) (at-if1 .if1 .left))
-          (at-clear .clear .ensures .1 .long ∙ at-occupy .occupy .ensures .1 .long ∙ at-starts .starts .ensures .2 .long),
+          (at-clear .clear .ensures .1 .long ∙ at-occupy .occupy .ensures .1 .long
+          ∙ at-starts .starts .ensures .2 .long),
       record { at = λ p l. at-clear .clear .ensures .1 .below p (omega arith) ∙ started .at p l },
       at-clear .clear .ensures .0,
     )
 
 cast-t24 : tie.Need-cast-t24
 cast-t24 c =
-    let at-entry = c .before .before .before .before .before .before .before .before .before .before .before .before .before .before .before .before .before .before .before .before .before .before .before .before .before in
+    let at-entry =
+    c .before .before .before .before .before .before .before .before .before .before .before .before .before .before .before .before .before .before .before .before .before .before .before .before .before in
     omega (arith, at-entry .pre .few)
 
 same-length-2 : tie.Need-same-length-2
@@ -129,7 +147,9 @@ same-length-2 c =
     let at-if1 = at-starts .before .before in
     let at-stray-parent = at-if1 .before in
     let at-entry = at-stray-parent .before .before .before .before in
-    structured-7 (at-entry .pre) (at-stray-parent .stray-parent .ensures) (at-if1 .if1 .left) (at-starts .starts .ensures) (at-occupy .occupy .ensures) (at-bad-rank .bad-rank .ensures) (at-if2 .if2 .left) (at-clear .clear .ensures .1) (at-drifting .drifting .ensures) (c .if3 .taken) .kept .long
+    structured-7 (at-entry .pre) (at-stray-parent .stray-parent .ensures) (at-if1 .if1 .left)
+    (at-starts .starts .ensures) (at-occupy .occupy .ensures) (at-bad-rank .bad-rank .ensures) (at-if2 .if2 .left)
+    (at-clear .clear .ensures .1) (at-drifting .drifting .ensures) (c .if3 .taken) .kept .long
 
 returns-3 : tie.Need-returns-3
 returns-3 c =
@@ -142,7 +162,9 @@ returns-3 c =
     let at-if1 = at-starts .before .before in
     let at-stray-parent = at-if1 .before in
     let at-entry = at-stray-parent .before .before .before .before in
-    structured-7 (at-entry .pre) (at-stray-parent .stray-parent .ensures) (at-if1 .if1 .left) (at-starts .starts .ensures) (at-occupy .occupy .ensures) (at-bad-rank .bad-rank .ensures) (at-if2 .if2 .left) (at-clear .clear .ensures .1) (at-drifting .drifting .ensures) (c .if3 .taken)
+    structured-7 (at-entry .pre) (at-stray-parent .stray-parent .ensures) (at-if1 .if1 .left)
+    (at-starts .starts .ensures) (at-occupy .occupy .ensures) (at-bad-rank .bad-rank .ensures) (at-if2 .if2 .left)
+    (at-clear .clear .ensures .1) (at-drifting .drifting .ensures) (c .if3 .taken)
 
 same-length-3 : tie.Need-same-length-3
 same-length-3 c =
@@ -155,7 +177,9 @@ same-length-3 c =
     let at-if1 = at-starts .before .before in
     let at-stray-parent = at-if1 .before in
     let at-entry = at-stray-parent .before .before .before .before in
-    structured-all (at-entry .pre) (at-stray-parent .stray-parent .ensures) (at-if1 .if1 .left) (at-starts .starts .ensures) (at-occupy .occupy .ensures) (at-bad-rank .bad-rank .ensures) (at-if2 .if2 .left) (at-clear .clear .ensures .1) (at-drifting .drifting .ensures) (c .if3 .left) .kept .long
+    structured-all (at-entry .pre) (at-stray-parent .stray-parent .ensures) (at-if1 .if1 .left)
+    (at-starts .starts .ensures) (at-occupy .occupy .ensures) (at-bad-rank .bad-rank .ensures) (at-if2 .if2 .left)
+    (at-clear .clear .ensures .1) (at-drifting .drifting .ensures) (c .if3 .left) .kept .long
 
 returns-4 : tie.Need-returns-4
 returns-4 c =
@@ -168,7 +192,9 @@ returns-4 c =
     let at-if1 = at-starts .before .before in
     let at-stray-parent = at-if1 .before in
     let at-entry = at-stray-parent .before .before .before .before in
-    structured-all (at-entry .pre) (at-stray-parent .stray-parent .ensures) (at-if1 .if1 .left) (at-starts .starts .ensures) (at-occupy .occupy .ensures) (at-bad-rank .bad-rank .ensures) (at-if2 .if2 .left) (at-clear .clear .ensures .1) (at-drifting .drifting .ensures) (c .if3 .left)
+    structured-all (at-entry .pre) (at-stray-parent .stray-parent .ensures) (at-if1 .if1 .left)
+    (at-starts .starts .ensures) (at-occupy .occupy .ensures) (at-bad-rank .bad-rank .ensures) (at-if2 .if2 .left)
+    (at-clear .clear .ensures .1) (at-drifting .drifting .ensures) (c .if3 .left)
 
 pub structure-spec : {M : Type 1} → statement M
 structure-spec =

@@ -42,10 +42,14 @@ put-requires c κs =
     let at-get = at-get2 .before .before in
     let at-loop-test = at-get .before in
     let at-loop = at-loop-test .before in
-    let at-entry = at-loop .before .before .before in
-    (
+    let at-entry = at-loop .before .before .before in (
       tallying-in (at-entry .pre .0) (at-loop .loop .inv) (at-loop-test .loop-test .taken) (at-get .get .ensures .0),
-      omega (arith, tallying-few (at-entry .pre .0) (at-loop .loop .inv) (at-loop-test .loop-test .taken) (at-get .get .ensures .0) (at-get2 .get2 .ensures .0), at-entry .pre .0 .few),
+      omega (
+        arith,
+        tallying-few (at-entry .pre .0) (at-loop .loop .inv) (at-loop-test .loop-test .taken)
+            (at-get .get .ensures .0) (at-get2 .get2 .ensures .0),
+        at-entry .pre .0 .few,
+      ),
     )
 
 add-v : tie.Need-add-v Inv-loop μ-loop
@@ -62,7 +66,8 @@ loop-again c =
     let at-loop-test = at-get .before in
     let at-loop = at-loop-test .before in
     let at-entry = at-loop .before .before .before in
-    tallying-step (at-entry .pre .0) (at-loop .loop .inv) (at-loop-test .loop-test .taken) (at-get .get .ensures .0) (at-get2 .get2 .ensures .0) (at-put .put .ensures)
+    tallying-step (at-entry .pre .0) (at-loop .loop .inv) (at-loop-test .loop-test .taken)
+    (at-get .get .ensures .0) (at-get2 .get2 .ensures .0) (at-put .put .ensures)
 
 same-length : tie.Need-same-length Inv-loop μ-loop
 same-length c =

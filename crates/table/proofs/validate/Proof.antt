@@ -51,7 +51,8 @@ returns-6 c =
     let at-if2 = at-if3 .before in
     let at-if1 = at-if2 .before in
     let at-entry = at-if1 .before .before .before .before .before in
-    validated-4 (shape {L = at-entry .args .limits} (at-if1 .if1 .left) (at-if2 .if2 .left) (at-if3 .if3 .left) (not-false _ (at-if4 .if4 .left)) (at-if5 .if5 .left))
+    validated-4 (shape {L = at-entry .args .limits} (at-if1 .if1 .left) (at-if2 .if2 .left) (at-if3 .if3 .left)
+    (not-false _ (at-if4 .if4 .left)) (at-if5 .if5 .left))
     (λ e _. c .if6 .taken (at-get .get .ensures .0 ∙ e))
 
 get-requires-2 : tie.Need-get-requires-2
@@ -66,7 +67,8 @@ returns-7 c =
     let at-if2 = at-if3 .before in
     let at-if1 = at-if2 .before in
     let at-entry = at-if1 .before .before .before .before .before in
-    validated-4 (shape {L = at-entry .args .limits} (at-if1 .if1 .left) (at-if2 .if2 .left) (at-if3 .if3 .left) (not-false _ (at-if4 .if4 .left)) (at-if5 .if5 .left))
+    validated-4 (shape {L = at-entry .args .limits} (at-if1 .if1 .left) (at-if2 .if2 .left) (at-if3 .if3 .left)
+    (not-false _ (at-if4 .if4 .left)) (at-if5 .if5 .left))
     (λ _ e. c .if7 .taken (at-get2 .get2 .ensures .0 ∙ e))
 
 structure-requires : tie.Need-structure-requires
@@ -100,7 +102,8 @@ returns-8 c =
     let at-if2 = at-if3 .before in
     let at-if1 = at-if2 .before in
     let at-entry = at-if1 .before .before .before .before .before in
-    validated-all (shape {L = at-entry .args .limits} (at-if1 .if1 .left) (at-if2 .if2 .left) (at-if3 .if3 .left) (not-false _ (at-if4 .if4 .left)) (at-if5 .if5 .left)) (at-structure .structure .ensures)
+    validated-all (shape {L = at-entry .args .limits} (at-if1 .if1 .left) (at-if2 .if2 .left) (at-if3 .if3 .left)
+    (not-false _ (at-if4 .if4 .left)) (at-if5 .if5 .left)) (at-structure .structure .ensures)
 
 pub validate-spec : {M : Type 1} → statement M
 validate-spec =
