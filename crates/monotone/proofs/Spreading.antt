@@ -14,7 +14,7 @@ use Rattle.table.specs.TableLaws.{Tree}
 use Rattle.monotone.specs.Plane.{Vec}
 use Rattle.monotone.specs.Cones.{Part, Edges, edgeAt, Formed, Grown}
 use Rattle.monotone.specs.PathEdges.{path-down}
-use Rattle.monotone.specs.Rows.{Ready, TurnedPart, Turned, Said, Told, Row, Reached, Visited, known, grown, Ordered, Coned}
+use Rattle.monotone.specs.Rows.{WithEdges, TurnedPart, Turned, Said, Told, Row, Reached, Visited, known, grown, Ordered, Coned}
 use Rattle.monotone.proofs.Growth.{holds-formed}
 use Rattle.monotone.proofs.Climbing.{edges-kept, vectors-kept, store-here, store-else, said-some, told-store}
 
@@ -33,10 +33,10 @@ ordered-kept {P} {W} {X} same o = record {
   later = o .later;
 }
 
-pub ready-kept : {P W X : List ℕ} → Only 0 (length P) W X → Ready P W → Ready P X
+pub ready-kept : {P W X : List ℕ} → Only 0 (length P) W X → WithEdges P W → WithEdges P X
 ready-kept o r = record { ranks = r .ranks; tree = r .tree; edges = edges-kept o (r .edges) }
 
-pub ready-turned : {P : List ℕ} {u : ℕ} {W X : List ℕ} → Turned P u W X → Ready P W → Ready P X
+pub ready-turned : {P : List ℕ} {u : ℕ} {W X : List ℕ} → Turned P u W X → WithEdges P W → WithEdges P X
 ready-turned {P} {u} {W} {X} t r = record {
   ranks = r .ranks;
   tree = r .tree;

@@ -1,7 +1,7 @@
 -- Monotone drawings (document 01, "Check"; refusals 14 and 15).
 --
 --   HasDirection P x y u v    == some whole numbers d and e, negative ones allowed, make every edge of the tree path rise
---   beyond L x y v            == refusal 15: a place of v is beyond the limit
+--   beyond place x y v        == refusal 15: x or y of v is above the largest place
 --   checkFault L ..           == refusals 1, 14, 3 to 7, 15 at the limits L
 --   Before a b u v            == the pair (a, b) comes before (u, v)
 --   AllDirected P x y         == every pair has a direction. Of pairs the smaller node is first
@@ -35,13 +35,13 @@ pub record HasDirection (P x y : List ℕ) (u v : ℕ) : Type 0 where
 ------------------------------------------------------------------------
 -- The check
 
-unfoldable pub beyond : Limits → List ℕ → List ℕ → ℕ → Bool
-beyond L x y v = ltb (L .place) (getD x v 0) || ltb (L .place) (getD y v 0)
+unfoldable pub beyond : ℕ → List ℕ → List ℕ → ℕ → Bool
+beyond place x y v = ltb place (getD x v 0) || ltb place (getD y v 0)
 
 unfoldable pub checkFault : Limits → List ℕ → List ℕ → List ℕ → List ℕ → ℕ → Option Refusal
 checkFault L P R x y work =
     tableFault L P R (allLong (length P) (x ∷ y ∷ [])) work
-    orElse refuseLeast (L .beyond) (length P) (beyond L x y)
+    orElse refuseLeast (L .beyond) (length P) (beyond (L .place) x y)
 
 -- a smaller first node, then a smaller second
 abbrev pub Before : ℕ → ℕ → ℕ → ℕ → Type 0

@@ -1,7 +1,7 @@
 -- The work list while the paths from one node u are followed: each node's cone is that of its path from u, and 0 while that
 -- path is not known. What the contracts of the loops cite.
 --
---   Ready P W           == P is a tree, and W has its edges
+--   WithEdges P W           == P is a tree, and W has its edges
 --   TurnedPart P u ..   == the numbers at `at` with those of the edges from u to the root turned round
 --   Turned P u W X      == X is W with the edges from u to the root turned round
 --   Said P edge u k v   == k is the cone of the path from u to v
@@ -11,24 +11,32 @@
 --   Visited P W v X     == X is W with v's cone known, from its parent's
 --   Ordered P W         == the last region is an order in which children come before their parents
 --   Coned P u W X       == X is W with every cone known
+--   Coordinate P c      == c is a coordinate of the nodes, within 2,147,483,647
+--   DrawnPart P c at W  == the numbers at `at` are the edges' parts in the coordinate c
 --   Drawn P x y W       == the edges are those of a drawing, walked down
 --   Found P x y r       == r says whether every pair has a direction, or the first that has none
+--   Judged P R x y W    == what the refusals leave
+--   Checked L ..        == r is what the check at the limits L answers, and X the work list after it
 use mathlib.Core.Bool.{true, false}
-use mathlib.Core.List.{List}
+use mathlib.Core.List.{List, [], _∷_}
+use mathlib.Core.Option.{some}
 use mathlib.Core.Path.{_≡_}
 use Prim.Native.Nat.{ℕ, _+_, _*_, _≤_, _<_}
 use lib.ListN.{length, getD, set}
 use Rattle.laws.specs.Regions.{Only}
-use Rattle.table.specs.Table.{parent, under}
+use Rattle.laws.specs.Search.{Refusal}
+use Rattle.table.specs.declared.Limits.{Limits}
+use Rattle.table.specs.Table.{parent, under, allLong, shapeFault}
 use Rattle.table.specs.TableLaws.{Tree}
+use Rattle.table.specs.Work.{Ready}
 use Rattle.monotone.specs.declared.Verdict.{Verdict}
 use Rattle.monotone.specs.declared.Verdict.the-variants.{Monotone, Turns, Refused}
-use Rattle.monotone.specs.Monotone.{AllDirected, FirstTurn}
+use Rattle.monotone.specs.Monotone.{AllDirected, FirstTurn, Says}
 use Rattle.monotone.specs.Plane.{Vec}
 use Rattle.monotone.specs.PathEdges.{OnPath}
 use Rattle.monotone.specs.Cones.{edgeAt, Edges, Holds, Formed, Grown}
 
-pub record Ready (P W : List ℕ) : Type 0 where
+pub record WithEdges (P W : List ℕ) : Type 0 where
   pub ranks : List ℕ
   pub tree : Tree P ranks
   pub edges : Edges (length P) W
@@ -90,6 +98,11 @@ pub record Coned (P : List ℕ) (u : ℕ) (W X : List ℕ) : Type 0 where
 ------------------------------------------------------------------------
 -- Drawings
 
+pub record Coordinate (P c : List ℕ) : Type 0 where
+  pub inside : (v : ℕ) → v < length P → parent P v < length P
+  pub long : length c ≡ length P
+  pub within : (v : ℕ) → v < length P → getD c v 0 ≤ 2147483647
+
 pub record DrawnPart (P c : List ℕ) (at : ℕ) (W : List ℕ) : Type 0 where
   pub drawn : (z : ℕ) → z < length P → getD W (at + z) 0 + getD c (parent P z) 0 ≡ getD c z 0 + 2147483648
 
@@ -101,3 +114,14 @@ abbrev pub Found : List ℕ → List ℕ → List ℕ → Verdict → Type 0
 Found P x y Monotone = AllDirected P x y
 Found P x y (Turns u v) = FirstTurn P x y u v
 Found P x y (Refused k v) = ⊥
+
+-- what the refusals leave
+pub record Judged (P R x y W : List ℕ) : Type 0 where
+  pub ready : Ready P R W
+  pub few : length P ≤ 65536
+  pub across : Coordinate P x
+  pub up : Coordinate P y
+
+pub record Checked (L : Limits) (P R x y W X : List ℕ) (r : Verdict) : Type 0 where
+  pub says : Says L P R x y (length W) r
+  pub spared : (f : Refusal) → shapeFault L P R (allLong (length P) (x ∷ y ∷ [])) (length W) ≡ some f → X ≡ W

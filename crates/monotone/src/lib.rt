@@ -1,18 +1,25 @@
 // Whether a given drawing of a tree is monotone.
-ghost use mathlib.Core.List.{List};
+ghost use mathlib.Core.List.{List, [], _∷_};
 ghost use mathlib.Core.Path.{_≡_};
 ghost use Prim.Native.Nat.{ℕ, _+_, _-_, _*_, _≤_, _<_};
 ghost use lib.IntN.{pos, _-ℤ_};
 ghost use lib.ListN.{length, getD, set};
 ghost use Rattle.monotone.specs.Plane.{cross, dot};
 ghost use Rattle.laws.specs.Regions.{Only};
+ghost use Rattle.laws.specs.Search.{least};
+ghost use Rattle.table.specs.Table.{allLong};
 ghost use Rattle.table.specs.Work.{Zeroed};
-ghost use Rattle.monotone.specs.Rows.{Ready, Turned, Row, Reached, Visited, Ordered, Coned, Drawn, Found};
+ghost use Rattle.monotone.specs.Monotone.{beyond};
+ghost use Rattle.monotone.specs.Rows.{WithEdges, Turned, Row, Reached, Visited, Ordered, Coned, Coordinate, DrawnPart, Drawn, Found, Judged, Checked};
 ghost use Rattle.monotone.specs.Cones.{vec, Small, Near, Moved, partAt, edgeAt, Part, Edges, Alone, Formed, Grown};
 
 use table::clear;
 use table::get;
+use table::number;
 use table::put;
+use table::validate;
+use table::Limits;
+use table::Validity;
 
 // What the check answers: every pair has a direction, the first pair that has none, or a refusal's number and node.
 pub enum Verdict {
@@ -154,7 +161,7 @@ fn flip(work: &mut [u32], i: usize)
 
 // Turns the edges from u up to the root round, so that all are walked away from u; and back again.
 fn turn(parent: &[u32], work: &mut [u32], u: usize)
-    requires { ⌜ Ready (now parent) (now work) × (u < length (now parent)) ⌝ }
+    requires { ⌜ WithEdges (now parent) (now work) × (u < length (now parent)) ⌝ }
     ensures { λ _. ⌜ Turned (now (parent .entry)) u (now (work .entry)) (now (work .exit)) ⌝ }
 {
     let n = parent.len();
@@ -168,7 +175,7 @@ fn turn(parent: &[u32], work: &mut [u32], u: usize)
 
 // The cones of the paths from u to itself and its ancestors.
 fn climb(parent: &[u32], work: &mut [u32], u: usize)
-    requires { ⌜ Ready (now parent) (now work) × (u < length (now parent)) × Zeroed 0 (length (now parent)) (now work) ⌝ }
+    requires { ⌜ WithEdges (now parent) (now work) × (u < length (now parent)) × Zeroed 0 (length (now parent)) (now work) ⌝ }
     ensures { λ _. ⌜ Row (now (parent .entry)) (edgeAt (length (now (parent .entry))) (now (work .entry))) u (now (work .exit)) ⌝ }
     ensures { λ _. ⌜ Only 0 (length (now (parent .entry))) (now (work .entry)) (now (work .exit)) ⌝ }
 {
@@ -186,7 +193,7 @@ fn climb(parent: &[u32], work: &mut [u32], u: usize)
 
 // The cone of the path to v, from that of the path to v's parent, where it is not known yet.
 fn visit(parent: &[u32], work: &mut [u32], v: usize)
-    requires { ⌜ Ready (now parent) (now work) × Reached (now parent) (now work) v ⌝ }
+    requires { ⌜ WithEdges (now parent) (now work) × Reached (now parent) (now work) v ⌝ }
     ensures { λ _. ⌜ Visited (now (parent .entry)) (now (work .entry)) v (now (work .exit)) ⌝ }
 {
     let n = parent.len();
@@ -202,7 +209,7 @@ fn visit(parent: &[u32], work: &mut [u32], v: usize)
 
 // The cones of the paths from u to every node, from the root down.
 fn cones(parent: &[u32], work: &mut [u32], u: usize)
-    requires { ⌜ Ready (now parent) (now work) × Ordered (now parent) (now work) × (u < length (now parent)) ⌝ }
+    requires { ⌜ WithEdges (now parent) (now work) × Ordered (now parent) (now work) × (u < length (now parent)) ⌝ }
     ensures { λ _. ⌜ Coned (now (parent .entry)) u (now (work .entry)) (now (work .exit)) ⌝ }
 {
     let n = parent.len();
@@ -220,7 +227,7 @@ fn cones(parent: &[u32], work: &mut [u32], u: usize)
 
 // Whether every pair has a direction, or the first pair that has none: the first whose path has no open half plane.
 fn pairs(parent: &[u32], work: &mut [u32]) -> Verdict
-    requires { ⌜ Ready (now parent) (now work) × Ordered (now parent) (now work) ⌝ }
+    requires { ⌜ WithEdges (now parent) (now work) × Ordered (now parent) (now work) ⌝ }
     ensures { λ r. ⌜ ((x y : List ℕ) → Drawn (now (parent .entry)) x y (now (work .entry)) → Found (now (parent .entry)) x y r) ⌝ }
 {
     let n = parent.len();
@@ -239,4 +246,82 @@ fn pairs(parent: &[u32], work: &mut [u32]) -> Verdict
         u += 1;
     }
     answer
+}
+
+// The edges' parts in the coordinate c, from `at` on: c of each node less c of its parent.
+fn offsets(c: &[u32], parent: &[u32], work: &mut [u32], at: usize)
+    requires { ⌜ Coordinate (now parent) (now c) × (at + length (now parent) ≤ length (now work)) ⌝ }
+    ensures { λ _. ⌜ DrawnPart (now (parent .entry)) (now (c .entry)) at (now (work .exit)) ⌝ }
+    ensures { λ _. ⌜ Only at (at + length (now (parent .entry))) (now (work .entry)) (now (work .exit)) ⌝ }
+{
+    let n = parent.len();
+    let mut z = 0;
+    while z < n {
+        let p = get(parent, z);
+        let below = get(c, z);
+        let above = get(c, p);
+        put(work, at + z, below + 2147483648 - above);
+        z += 1;
+    }
+}
+
+// The smallest node with refusal 15, or n.
+fn too_far(place: u32, x: &[u32], y: &[u32]) -> usize
+    requires { ⌜ length (now y) ≡ length (now x) ⌝ }
+    ensures { λ r. ⌜ r ≡ least (beyond place (now (x .entry)) (now (y .entry))) (length (now (x .entry))) ⌝ }
+{
+    let n = x.len();
+    let most = place as usize;
+    let mut v = 0;
+    while v < n {
+        if most < get(x, v) {
+            return v;
+        }
+        if most < get(y, v) {
+            return v;
+        }
+        v += 1;
+    }
+    n
+}
+
+// Whether x and y are n long.
+fn both_long(x: &[u32], y: &[u32], n: usize) -> bool
+    ensures { λ r. ⌜ r ≡ allLong n (now (x .entry) ∷ now (y .entry) ∷ []) ⌝ }
+{
+    if x.len() != n {
+        return false;
+    }
+    y.len() == n
+}
+
+// The check of an accepted table with places within the limit.
+fn judge(parent: &[u32], rank: &[u32], x: &[u32], y: &[u32], work: &mut [u32]) -> Verdict
+    requires { ⌜ Judged (now parent) (now rank) (now x) (now y) (now work) ⌝ }
+    ensures { λ r. ⌜ Found (now (parent .entry)) (now (x .entry)) (now (y .entry)) r ⌝ }
+{
+    let n = parent.len();
+    number(parent, rank, work);
+    offsets(x, parent, work, n);
+    offsets(y, parent, work, 2 * n);
+    pairs(parent, work)
+}
+
+// The check at given limits.
+fn check_within(limits: Limits, parent: &[u32], rank: &[u32], x: &[u32], y: &[u32], work: &mut [u32]) -> Verdict
+    requires { ⌜ (limits .nodes ≤ 65536) × (limits .place ≤ 2147483647) ⌝ }
+    ensures { λ r. ⌜ Checked limits (now (parent .entry)) (now (rank .entry)) (now (x .entry)) (now (y .entry)) (now (work .entry)) (now (work .exit)) r ⌝ }
+{
+    let n = parent.len();
+    let long = both_long(x, y, n);
+    match validate(limits, parent, rank, long, work) {
+        Validity::Refused(number, node) => Verdict::Refused(number, node),
+        Validity::Accepted => {
+            let v = too_far(limits.place, x, y);
+            if v < n {
+                return Verdict::Refused(limits.beyond, v as u32);
+            }
+            judge(parent, rank, x, y, work)
+        }
+    }
 }

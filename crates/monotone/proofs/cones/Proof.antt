@@ -6,7 +6,7 @@ use native.Mathlib.Omega.{arith}
 use lib.ListN.{length}
 use Rattle.laws.specs.Regions.{Only}
 use Rattle.table.specs.Work.{Zeroed}
-use Rattle.monotone.specs.Rows.{Ready, Row, Reached, Ordered, Visited, Coned}
+use Rattle.monotone.specs.Rows.{WithEdges, Row, Reached, Ordered, Visited, Coned}
 use Rattle.monotone.specs.Cones.{edgeAt}
 use Rattle.monotone.proofs.Spreading.{Spreading, spreading-start, spreading-reached, spreading-step, node-in, coned, ordered-kept, ready-kept, ready-turned}
 use Rattle.monotone.proofs.Climbing.{row-after}
@@ -32,7 +32,7 @@ module _ (c : tie.After-clear Inv-loop μ-loop) where
   abbrev P : List ℕ
   P = start .args .parent .now
 
-  cleared : Ready P (c .clear .last .0)
+  cleared : WithEdges P (c .clear .last .0)
   cleared = ready-kept (c .clear .ensures .1) (start .pre .0)
 
 turn-requires : tie.Need-turn-requires Inv-loop μ-loop
@@ -42,7 +42,7 @@ module _ (c : tie.After-turn Inv-loop μ-loop) where
   abbrev clear-of : tie.After-clear Inv-loop μ-loop
   clear-of = c .before .before .before .before
 
-  turned : Ready (P clear-of) (c .turn .last .1 .0)
+  turned : WithEdges (P clear-of) (c .turn .last .1 .0)
   turned = ready-turned (c .turn .ensures) (cleared clear-of)
 
 climb-requires : tie.Need-climb-requires Inv-loop μ-loop
@@ -61,7 +61,7 @@ module _ (c : tie.After-climb Inv-loop μ-loop) where
   abbrev first : tie.Start Inv-loop μ-loop
   first = start (clear-of turn-of)
 
-  climbed : Ready (first .args .parent .now) (c .climb .last .1 .0)
+  climbed : WithEdges (first .args .parent .now) (c .climb .last .1 .0)
   climbed = ready-kept (c .climb .ensures .1) (turned turn-of)
 
   ordered : Ordered (first .args .parent .now) (c .climb .last .1 .0)
@@ -81,7 +81,7 @@ module _ (c : tie.At-loop Inv-loop μ-loop) where
   climb-of = c .before .before .before
 
   -- the list of the loop
-  here : Ready (first climb-of .args .parent .now) (c .loop .work)
+  here : WithEdges (first climb-of .args .parent .now) (c .loop .work)
   here = ready-kept (c .loop .inv .only) (climbed climb-of)
 
 sub-j : tie.Need-sub-j Inv-loop μ-loop

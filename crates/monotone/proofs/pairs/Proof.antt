@@ -7,7 +7,7 @@ use lib.ListN.{length}
 use Rattle.laws.specs.Regions.{Only, only-refl, only-trans}
 use Rattle.monotone.specs.declared.Verdict.{Verdict}
 use Rattle.monotone.specs.declared.Verdict.the-variants.{Monotone}
-use Rattle.monotone.specs.Rows.{Ready, Ordered, Found}
+use Rattle.monotone.specs.Rows.{WithEdges, Ordered, Found}
 use Rattle.monotone.proofs.Spreading.{ready-kept, ordered-kept}
 use Rattle.monotone.proofs.Deciding.{OverRows, OverRow, passed-none, clear-more, passed-row, first-turn, all-passed}
 use Rattle.monotone.proofs.pairs.Statement.{statement}
