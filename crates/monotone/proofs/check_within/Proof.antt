@@ -1,64 +1,102 @@
+-- Each answer is a case of the definition: a refusal of the table, one of a place, or what the pairs say.
+use mathlib.Core.Path.{_≡_, sym, subst, _∙_}
+use native.Mathlib.Omega.{arith}
+use lib.ListN.{length}
 use borrow.Author.Needs.{needs}
+use Rattle.table.specs.declared.Validity.{Validity}
+use Rattle.table.specs.declared.Validity.the-variants.{Accepted}
+use Rattle.table.specs.Work.{Validated}
+use Rattle.monotone.proofs.Judging.{checked-table, checked-far, checked-found, judged, x-long, y-long, few-nodes}
 use Rattle.monotone.proofs.check_within.Statement.{statement}
 use Rattle.monotone.proofs.check_within.Tie as tie
-use Rattle.monotone.proofs.check_within.Reads as reads
-use Rattle.monotone.proofs.check_within.Lts as lts
-use Rattle.monotone.proofs.both_long.Reads as both-long-reads
-use Rattle.monotone.proofs.judge.Reads as judge-reads
-use Rattle.monotone.proofs.too_far.Reads as too-far-reads
-use Rattle.table.proofs.validate.Reads as validate-reads
 
--- src/lib.rt:316:9
 both-long-requires : tie.Need-both-long-requires
 both-long-requires c κs = search needs
 
--- src/lib.rt:317:11
 validate-requires : tie.Need-validate-requires
 validate-requires c κs = search needs
 
--- src/lib.rt:318:27
 enum-known-number : tie.Need-enum-known-number
 enum-known-number c = search needs
 
--- src/lib.rt:320:17
 enum-told : tie.Need-enum-told
 enum-told c = search needs
 
--- src/lib.rt:320:17
+-- the table is accepted
+module _ (c : tie.After-enum-told) where
+  abbrev valid : tie.After-validate
+  valid = c .before .before .before .before
+
+  abbrev lengths : tie.After-both-long
+  lengths = valid .before .before
+
+  abbrev start : tie.Start
+  start = lengths .before .before .before .before .before .before
+
+  validated : Validated (start .args .limits) (start .args .parent .now) (start .args .rank .now) (lengths .both-long .result)
+      (start .args .work .now) (valid .validate .last .1 .1 .1 .1 .0) Accepted
+  validated =
+      subst (Validated (start .args .limits) (start .args .parent .now) (start .args .rank .now) (lengths .both-long .result)
+      (start .args .work .now) (valid .validate .last .1 .1 .1 .1 .0)) (c .enum-told .given .1) (valid .validate .ensures)
+
 too-far-requires : tie.Need-too-far-requires
-too-far-requires c κs = ?
+too-far-requires c κs =
+    let at = start c .args in
+    let same = lengths c .both-long .ensures in
+    y-long (at .x .now) (at .y .now) same (validated c) ∙ sym (x-long (at .x .now) (at .y .now) same (validated c))
 
--- src/lib.rt:322:56
 cast-t17 : tie.Need-cast-t17
-cast-t17 c = ?
+cast-t17 c =
+    let accepted = c .before .before in
+    let at = start accepted in
+    let few = few-nodes (at .args .x .now) (at .args .y .now) (lengths accepted .both-long .ensures) (validated accepted) (at .pre .0) in
+    omega (arith, c .if1 .taken, few)
 
--- src/lib.rt:322:17
 same-length : tie.Need-same-length
 same-length c = search needs
 
--- src/lib.rt:322:17
 returns : tie.Need-returns
-returns c = ?
+returns c =
+    let found = c .before in
+    let accepted = found .before in
+    let at = start accepted .args in
+    checked-far (at .x .now) (at .y .now) (lengths accepted .both-long .ensures) (validated accepted) (found .too-far .ensures)
+    (c .if1 .taken)
 
--- src/lib.rt:324:13
 judge-requires : tie.Need-judge-requires
-judge-requires c κs = ?
+judge-requires c κs =
+    let test = c .before in
+    let found = test .before in
+    let accepted = found .before in
+    let at = start accepted .args in
+    judged (at .x .now) (at .y .now) (lengths accepted .both-long .ensures) (validated accepted) (found .too-far .ensures)
+    (test .if1 .left) (start accepted .pre .0) (start accepted .pre .1)
 
--- src/lib.rt:311:1
 same-length-2 : tie.Need-same-length-2
 same-length-2 c = search needs
 
--- src/lib.rt:311:1
 returns-2 : tie.Need-returns-2
-returns-2 c = ?
+returns-2 c =
+    let told = c .before in
+    let valid = told .before .before .before .before in
+    let lengths = valid .before .before in
+    let start = lengths .before .before .before .before .before .before in
+    checked-table (start .args .x .now) (start .args .y .now) (lengths .both-long .ensures)
+    (subst (Validated (start .args .limits) (start .args .parent .now) (start .args .rank .now) (lengths .both-long .result)
+    (start .args .work .now) (valid .validate .last .1 .1 .1 .1 .0)) (told .number .given .1) (valid .validate .ensures))
 
--- src/lib.rt:311:1
 same-length-3 : tie.Need-same-length-3
 same-length-3 c = search needs
 
--- src/lib.rt:311:1
 returns-3 : tie.Need-returns-3
-returns-3 c = ?
+returns-3 c =
+    let judged = c .before .before in
+    let test = judged .before .before in
+    let found = test .before in
+    let accepted = found .before in
+    let at = start accepted .args in
+    checked-found (at .x .now) (at .y .now) (lengths accepted .both-long .ensures) (validated accepted) (found .too-far .ensures)
+    (test .if1 .left) (judged .judge .result) (judged .judge .ensures)
 
 pub check-within-spec : {M : Type 1} → statement M
 check-within-spec =
