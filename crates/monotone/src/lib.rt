@@ -7,9 +7,9 @@ ghost use lib.ListN.{length, getD, set};
 ghost use Rattle.monotone.specs.Plane.{cross, dot};
 ghost use Rattle.laws.specs.Regions.{Only};
 ghost use Rattle.laws.specs.Search.{least};
-ghost use Rattle.table.specs.Table.{allLong};
+ghost use Rattle.table.specs.Table.{allLong, checked};
 ghost use Rattle.table.specs.Work.{Zeroed};
-ghost use Rattle.monotone.specs.Monotone.{beyond};
+ghost use Rattle.monotone.specs.Monotone.{beyond, Says, Untouched};
 ghost use Rattle.monotone.specs.Rows.{WithEdges, Turned, Row, Reached, Visited, Ordered, Coned, Coordinate, DrawnPart, Drawn, Found, Judged, Checked};
 ghost use Rattle.monotone.specs.Cones.{vec, Small, Near, Moved, partAt, edgeAt, Part, Edges, Alone, Formed, Grown};
 
@@ -324,4 +324,19 @@ fn check_within(limits: Limits, parent: &[u32], rank: &[u32], x: &[u32], y: &[u3
             judge(parent, rank, x, y, work)
         }
     }
+}
+
+// Whether the drawing of a table is monotone: the first pair, by number, whose tree path rises along no direction. The
+// work list is 4n long; refusals 1, 14 and 3 leave it alone.
+pub fn check(parent: &[u32], rank: &[u32], x: &[u32], y: &[u32], work: &mut [u32]) -> Verdict
+    ensures { λ r. ⌜ Says checked (now (parent .entry)) (now (rank .entry)) (now (x .entry)) (now (y .entry)) (length (now (work .entry))) r ⌝ }
+    ensures { λ r. ⌜ Untouched checked r (now (work .entry)) (now (work .exit)) ⌝ }
+{
+    let limits = Limits {
+        nodes: 4096,
+        surplus: 14,
+        place: 2147483647,
+        beyond: 15,
+    };
+    check_within(limits, parent, rank, x, y, work)
 }
