@@ -84,7 +84,7 @@ fn stray_parent(parent: &[u32]) -> usize
 }
 
 // Zeroes the work list from a up to e.
-fn clear(work: &mut [u32], a: usize, e: usize)
+pub fn clear(work: &mut [u32], a: usize, e: usize)
     requires { ⌜ (a ≤ e) × (e ≤ length (now work)) ⌝ }
     ensures { λ _. ⌜ Zeroed a e (now (work .exit)) × Only a e (now (work .entry)) (now (work .exit)) ⌝ }
 {

@@ -1,0 +1,210 @@
+-- From the refusals to the pairs: what an accepted table and its places give, and what each answer of the check says.
+use mathlib.Core.Bool.{Bool, true, false, not, _&&_}
+use mathlib.Core.List.{List, [], _∷_}
+use mathlib.Core.Logic.{_⊎_, ⊎-elim}
+use mathlib.Core.Option.{Option, none, some}
+use mathlib.Core.Path.{_≡_, refl, sym, ap, subst, subst⁻¹, _∙_}
+use Prim.Native.Nat.{ℕ, _+_, _*_, _^_, _≤_, _<_}
+use native.Mathlib.Omega.{arith}
+use lib.Dec.{ltb, eqb}
+use lib.ListN.{length, getD}
+use borrow.Author.Tests.{eqb-true}
+use Rattle.laws.specs.Refusals.{refusal, some-not-none, orElse-first, orElse-second, orElse-none, refuseLeast-yes, refuseLeast-no}
+use Rattle.laws.specs.Regions.{Only}
+use Rattle.laws.specs.Search.{least, Refusal, refuse, refuseLeast, _orElse_}
+use Rattle.laws.specs.SearchLaws.{least-none}
+use Rattle.laws.specs.Tests.{both}
+use Rattle.table.specs.Acceptance.{Shape, Accepting, accepting, validity-accepted, validity-refused}
+use Rattle.table.specs.declared.Limits.{Limits}
+use Rattle.table.specs.declared.Validity.the-variants.{Accepted, Refused}
+use Rattle.table.specs.Numbering.{Numbering, Numbered, numbering, number-at}
+use Rattle.table.specs.Table.{parent, rank, order, postNumber, strayParent, badRank, adrift, allLong, checked, shapeFault, treeFault, tableFault, validity}
+use Rattle.table.specs.TableLaws.{Tree}
+use Rattle.table.specs.Work.{Validated, Ready}
+use Rattle.monotone.specs.declared.Verdict.{Verdict}
+use Rattle.monotone.specs.declared.Verdict.the-variants as verdict
+use Rattle.monotone.specs.Monotone.{beyond, checkFault, Says, Untouched}
+use Rattle.monotone.specs.Cones.{Edges}
+use Rattle.monotone.specs.Rows.{WithEdges, Ordered, Coordinate, DrawnPart, Drawn, Found, Judged, Checked}
+use Rattle.monotone.proofs.Places.{both-within, drawn-small}
+
+------------------------------------------------------------------------
+-- The work list for the pairs
+
+-- W, numbered to A, with x's parts to B, with y's parts to C
+module _ {P R x y W A B C : List ℕ} (j : Judged P R x y W) (numbered : Numbered P R A)
+    (x-drawn : DrawnPart P x (length P) B) (x-only : Only (length P) (length P + length P) A B)
+    (y-drawn : DrawnPart P y (2 * length P) C) (y-only : Only (2 * length P) (2 * length P + length P) B C) where
+  pub drawn : Drawn P x y C
+  drawn = record {
+    across = record { drawn = λ z l. omega (arith, y-only .below (length P + z) (omega arith), x-drawn .drawn z l) };
+    up = y-drawn;
+  }
+
+  pub with-edges : WithEdges P C
+  with-edges = record {
+    ranks = R;
+    tree = j .ready .tree;
+    edges = record {
+      few = j .few;
+      long = y-only .long ∙ x-only .long ∙ numbered .long;
+      across = λ z s l. drawn-small (j .across) (drawn .across) z l;
+      up = λ z s l. drawn-small (j .up) (drawn .up) z l;
+    };
+  }
+
+  node : (i : ℕ) → i < length P → getD C (3 * length P + i) 0 ≡ getD (order P R) i 0
+  node i l =
+      y-only .above (3 * length P + i) (omega arith) ∙ x-only .above (3 * length P + i) (omega arith) ∙ numbered .node i l
+
+  pub ordered : Ordered P C
+  ordered =
+      let laws : Numbering P R (postNumber P R) = numbering (j .ready .tree) in
+      record {
+        number = postNumber P R;
+        inside = λ i l. subst⁻¹ (λ (v : ℕ). v < length P) (node i l) (number-at (j .ready .tree) i l .0);
+        place = λ i l. ap (postNumber P R) (node i l) ∙ number-at (j .ready .tree) i l .1;
+        once = laws .once;
+        least = laws .from-1;
+        most = laws .to-n;
+        later = laws .parent-later;
+      }
+
+------------------------------------------------------------------------
+-- The answers
+
+module _ (x y : List ℕ) {L : Limits} {P R : List ℕ} {long : Bool} {W X : List ℕ}
+    (lengths : long ≡ allLong (length P) (x ∷ y ∷ [])) where
+  -- a refusal of the table
+  pub checked-table : {k v : ℕ} → Validated L P R long W X (Refused k v) → Checked L P R x y W X (verdict.Refused k v)
+  unfolding Says checkFault
+  checked-table {k} {v} t = record {
+    says = orElse-first _ _ (subst (λ (b : Bool). tableFault L P R b (length W) ≡ refusal k v) lengths
+        (validity-refused (tableFault L P R long (length W)) k v (sym (t .answer))));
+    spared = λ f e. t .spared f (subst⁻¹ (λ (b : Bool). shapeFault L P R b (length W) ≡ some f) lengths e);
+  }
+
+  module _ (t : Validated L P R long W X Accepted) where
+    accepted : tableFault L P R (allLong (length P) (x ∷ y ∷ [])) (length W) ≡ none
+    accepted = subst (λ (b : Bool). tableFault L P R b (length W) ≡ none) lengths
+        (validity-accepted (tableFault L P R long (length W)) (sym (t .answer)))
+
+    known : Accepting L P R (allLong (length P) (x ∷ y ∷ [])) (length W)
+    known = accepting L P R _ (length W) accepted
+
+    -- the refusals that spare the work list have passed
+    passed : {Y : List ℕ} (f : Refusal) → shapeFault L P R (allLong (length P) (x ∷ y ∷ [])) (length W) ≡ some f → Y ≡ W
+    unfolding tableFault
+    passed f e = absurd (some-not-none (sym e ∙ orElse-none _ _ accepted .0))
+
+    pub x-long : length x ≡ length P
+    unfolding allLong
+    x-long = eqb-true _ _ (both _ _ (known .shape .others) .0)
+
+    pub y-long : length y ≡ length P
+    unfolding allLong
+    y-long = eqb-true _ _ (both _ true (both (eqb (length x) (length P)) _ (known .shape .others) .1) .0)
+
+    pub few-nodes : L .nodes ≤ 65536 → length P ≤ 65536
+    few-nodes nodes = omega (arith, known .shape .few)
+
+    module _ {v : ℕ} (far : v ≡ least (beyond (L .place) x y) (length x)) where
+      far-is : v ≡ least (beyond (L .place) x y) (length P)
+      far-is = far ∙ ap (least (beyond (L .place) x y)) x-long
+
+      -- refusal 15
+      pub checked-far : {Y : List ℕ} → v < length P → Checked L P R x y W Y (verdict.Refused (L .beyond) v)
+      unfolding Says checkFault
+      checked-far l = record {
+        says = orElse-second _ _ accepted ∙ refuseLeast-yes (L .beyond) (length P) (beyond (L .place) x y) v far-is l;
+        spared = passed;
+      }
+
+      module _ (near : length P ≤ v) where
+        no-fault : checkFault L P R x y (length W) ≡ none
+        unfolding checkFault
+        no-fault = orElse-second _ _ accepted ∙ refuseLeast-no (L .beyond) (length P) (beyond (L .place) x y) v far-is near
+
+        -- no refusal
+        pub checked-found : {Y : List ℕ} (r : Verdict) → Found P x y r → Checked L P R x y W Y r
+        unfolding Says
+        checked-found r f = record { says = says r f; spared = passed }
+          where
+            says : (r : Verdict) → Found P x y r → Says L P R x y (length W) r
+            says verdict.Monotone f = (no-fault, f)
+            says (verdict.Turns u w) f = (no-fault, f)
+            says (verdict.Refused k w) f = absurd f
+
+        within : (w : ℕ) → w < length P → (getD x w 0 ≤ L .place) × (getD y w 0 ≤ L .place)
+        within w l =
+            both-within (L .place) x y w (least-none (beyond (L .place) x y) (length P) (omega (arith, far-is)) w l)
+
+        pub judged : L .nodes ≤ 65536 → L .place ≤ 2147483647 → Judged P R x y X
+        judged nodes place = record {
+          ready = record {
+            tree = known .tree;
+            few = omega (arith, known .shape .few);
+            long = t .kept .long ∙ known .shape .work-long;
+            started = t .started refl;
+          };
+          few = few-nodes nodes;
+          across = record { inside = known .tree .inside; long = x-long; within = λ w l. omega (arith, within w l .0) };
+          up = record { inside = known .tree .inside; long = y-long; within = λ w l. omega (arith, within w l .1) };
+        }
+
+------------------------------------------------------------------------
+-- Refusals 1, 14 and 3 spare the work list
+
+abbrev Spares : ℕ → Type 0
+Spares k = (k ≡ 1) ⊎ ((k ≡ 14) ⊎ (k ≡ 3))
+
+-- a refusal that has another number
+record Other (o : Option Refusal) : Type 0 where
+  number : (f : Refusal) → o ≡ some f → Spares (f .number) → ⊥
+
+other-refuse : (b : Bool) (k v : ℕ) → (Spares k → ⊥) → Other (refuse b k v)
+other-refuse true k v h = record { number = λ f e s. h (let n : k ≡ f .number = cc in subst⁻¹ Spares n s) }
+other-refuse false k v h = record { number = λ f e s. some-not-none (sym e) }
+
+other-least : (k n : ℕ) (test : ℕ → Bool) → (Spares k → ⊥) → Other (refuseLeast k n test)
+other-least k n test h = other-refuse (ltb (least test n) n) k (least test n) h
+
+other-orElse : {a b : Option Refusal} → Other a → Other b → Other (a orElse b)
+other-orElse {a} {b} p q = by a p
+  where
+    by : (a : Option Refusal) → Other a → Other (a orElse b)
+    by none p = q
+    by (some f) p = p
+
+-- the later refusals
+late : (k : ℕ) → 4 ≤ k → (k ≡ 14 → ⊥) → Spares k → ⊥
+late k l h = ⊎-elim (λ e. omega arith) (⊎-elim h (λ e. omega arith))
+
+later-refusals : (P R x y : List ℕ) → Other (treeFault P R orElse refuseLeast 15 (length P) (beyond 2147483647 x y))
+unfolding treeFault
+later-refusals P R x y = other-orElse
+    (other-orElse (other-refuse (not (eqb (parent P 0) 0 && eqb (rank R 0) 0)) 4 0 (late 4 (omega arith) (λ e. omega arith)))
+    (other-orElse (other-least 5 (length P) (strayParent P) (late 5 (omega arith) (λ e. omega arith)))
+    (other-orElse (other-least 6 (length P) (badRank P R) (late 6 (omega arith) (λ e. omega arith)))
+    (other-least 7 (length P) (adrift P) (late 7 (omega arith) (λ e. omega arith))))))
+    (other-least 15 (length P) (beyond 2147483647 x y) (late 15 (omega arith) (λ e. omega arith)))
+
+-- where those come later, one that spares is among the first
+first-of : {X : Type 0} (a b : Option Refusal) {k v : ℕ} → Other b → a orElse b ≡ refusal k v → Spares k
+    → ((f : Refusal) → a ≡ some f → X) → X
+first-of none b {k} {v} h e s found = absurd (h .number (record { number = k; node = v }) e s)
+first-of (some f) b h e s found = found f refl
+
+regroup : (a b c : Option Refusal) → (a orElse b) orElse c ≡ a orElse (b orElse c)
+regroup none b c = refl
+regroup (some f) b c = refl
+
+pub untouched : {P R x y W X : List ℕ} (r : Verdict) → Checked checked P R x y W X r → Untouched checked r W X
+unfolding Untouched Says checkFault tableFault
+untouched verdict.Monotone c = tt
+untouched (verdict.Turns u v) c = tt
+untouched {P} {R} {x} {y} {W} (verdict.Refused k v) c =
+    let shape = shapeFault checked P R (allLong (length P) (x ∷ y ∷ [])) (length W) in
+    let rest = refuseLeast 15 (length P) (beyond 2147483647 x y) in
+    λ s. first-of shape (treeFault P R orElse rest) (later-refusals P R x y)
+    (sym (regroup shape (treeFault P R) rest) ∙ c .says) s (c .spared)

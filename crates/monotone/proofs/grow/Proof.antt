@@ -1,0 +1,130 @@
+-- Each return is a case of `Growth`: a shut cone stays shut, the first edge is a cone of its own, and else the move says it.
+use mathlib.Core.Path.{subst}
+use Prim.Native.Nat.{ℕ, _/_, _%_}
+use borrow.Author.Needs.{needs}
+use Rattle.monotone.specs.Plane.{Vec}
+use Rattle.monotone.specs.Cones.{edgeAt, Moved, Pair, Alone}
+use Rattle.monotone.proofs.Growth.{grow-shut, grow-first, grow-keep, grow-high, grow-low, grow-never, moved-to}
+use Rattle.monotone.proofs.grow.Statement.{statement}
+use Rattle.monotone.proofs.grow.Tie as tie
+
+abbrev start : tie.After-step → tie.Start
+start c = c .before .before .before .before .before .before .before
+
+pair : (c : tie.After-step) → Pair (start c .args .n) (start c .args .cone)
+pair c = start c .pre .3 (c .before .before .before .if2 .left) (c .before .before .before .before .before .if1 .left)
+
+-- the move, in the words of `Growth`
+abbrev edges : tie.After-step → ℕ → Vec
+edges c = edgeAt (start c .args .n) (start c .args .work .now)
+
+moved : (c : tie.After-step)
+    → Moved (edges c (start c .args .cone / 65536)) (edges c (start c .args .cone % 65536)) (edges c (start c .args .z)) (c .step .result)
+moved c =
+    moved-to (c .before .before .edge2 .ensures .0) (c .before .edge3 .ensures .0) (c .before .before .before .before .edge .ensures .0)
+    (c .step .ensures)
+
+returns : tie.Need-returns
+returns c =
+    let start = c .before .before in
+    grow-shut (start .args .n) (edgeAt (start .args .n) (start .args .work .now)) (start .args .cone) (start .args .z) (start .pre .0 .few) (start .pre .1) (start .pre .2) (c .if1 .taken)
+
+edge-requires : tie.Need-edge-requires
+edge-requires c κs = search needs
+
+alone-requires : tie.Need-alone-requires
+alone-requires c κs = search needs
+
+returns-2 : tie.Need-returns-2
+returns-2 c =
+    let first = c .before .before in
+    let start = first .before .before .before in
+    grow-first (start .args .n) (edgeAt (start .args .n) (start .args .work .now)) (start .args .cone) (start .args .z) (start .pre .0 .few) (start .pre .1) (start .pre .2) (c .before .if2 .taken)
+    (subst (λ (e : Vec). Alone (start .args .z) e (c .alone .result)) (first .edge .ensures .0) (c .alone .ensures))
+
+edge-requires-2 : tie.Need-edge-requires-2
+edge-requires-2 c κs =
+    let start = c .before .before .before .before in
+    let pair = start .pre .3 (c .if2 .left) (c .before .before .if1 .left) in
+    (start .pre .0, pair .low, pair .low-in)
+
+edge-requires-3 : tie.Need-edge-requires-3
+edge-requires-3 c κs =
+    let start = c .before .before .before .before .before in
+    let pair = start .pre .3 (c .before .if2 .left) (c .before .before .before .if1 .left) in
+    (start .pre .0, pair .high, pair .high-in)
+
+step-requires : tie.Need-step-requires
+step-requires c κs = search needs
+
+enum-told : tie.Need-enum-told
+enum-told c = search needs
+
+enum-told-2 : tie.Need-enum-told-2
+enum-told-2 c = search needs
+
+mul-result : tie.Need-mul-result
+mul-result c = search needs
+
+add-result : tie.Need-add-result
+add-result c = search needs
+
+enum-told-3 : tie.Need-enum-told-3
+enum-told-3 c = search needs
+
+mul-result-2 : tie.Need-mul-result-2
+mul-result-2 c = search needs
+
+add-result-2 : tie.Need-add-result-2
+add-result-2 c = search needs
+
+enum-told-4 : tie.Need-enum-told-4
+enum-told-4 c = search needs
+
+returns-3 : tie.Need-returns-3
+returns-3 c =
+    let at = start (c .before .before) in
+    grow-keep (at .args .n) (edges (c .before .before)) (at .args .cone) (at .args .z) (at .pre .0 .few) (at .pre .1) (at .pre .2)
+    (c .before .before .step .result) (moved (c .before .before)) (pair (c .before .before)) (c .enum-told .given .1)
+
+returns-4 : tie.Need-returns-4
+returns-4 c =
+    let at = start (c .before .before) in
+    grow-high (at .args .n) (edges (c .before .before)) (at .args .cone) (at .args .z) (at .pre .0 .few) (at .pre .1) (at .pre .2)
+    (c .before .before .step .result) (moved (c .before .before)) (pair (c .before .before)) (c .enum-told2 .given .1)
+
+returns-5 : tie.Need-returns-5
+returns-5 c =
+    let at = start (c .before .before) in
+    grow-low (at .args .n) (edges (c .before .before)) (at .args .cone) (at .args .z) (at .pre .0 .few) (at .pre .1) (at .pre .2)
+    (c .before .before .step .result) (moved (c .before .before)) (pair (c .before .before)) (c .enum-told3 .given .1)
+
+returns-6 : tie.Need-returns-6
+returns-6 c =
+    let at = start (c .before .before) in
+    grow-never (at .args .n) (edges (c .before .before)) (at .args .cone) (at .args .z) (at .pre .0 .few) (at .pre .1) (at .pre .2)
+    (c .before .before .step .result) (moved (c .before .before)) (pair (c .before .before)) (c .enum-told4 .given .1)
+
+pub grow-spec : {M : Type 1} → statement M
+grow-spec =
+    tie.close
+    (tie.spec
+    returns
+    edge-requires
+    alone-requires
+    returns-2
+    edge-requires-2
+    edge-requires-3
+    step-requires
+    enum-told
+    enum-told-2
+    mul-result
+    add-result
+    enum-told-3
+    mul-result-2
+    add-result-2
+    enum-told-4
+    returns-3
+    returns-4
+    returns-5
+    returns-6)

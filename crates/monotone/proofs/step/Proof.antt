@@ -1,0 +1,101 @@
+-- Each return is a case of `Plane`, with the signs that led there.
+use borrow.Author.Needs.{needs}
+use Rattle.laws.specs.Signs.{≤≥}
+use Rattle.monotone.specs.Plane.{high, low, keep-high, keep-low, keep-along, against-low, against-high, against-along}
+use Rattle.monotone.specs.Cones.{vec}
+use Rattle.monotone.proofs.Wide.{above-yes, above-no, below-yes, below-no}
+use Rattle.monotone.proofs.step.Statement.{statement}
+use Rattle.monotone.proofs.step.Tie as tie
+
+cross-product-requires : tie.Need-cross-product-requires
+cross-product-requires c κs = search needs
+
+cross-product-requires-2 : tie.Need-cross-product-requires-2
+cross-product-requires-2 c κs = search needs
+
+returns : tie.Need-returns
+returns c =
+    let start = c .before .before .before .before in
+    let p = c .before .before .before .cross-product in
+    let q = c .before .before .cross-product2 in
+    record { after = λ us cone. high (vec (start .args .u)) cone
+    (above-yes (p .ensures) (p .ok) (c .before .if1 .taken)) (below-yes (q .ensures) (q .ok) (c .if2 .taken)) }
+
+returns-2 : tie.Need-returns-2
+returns-2 c =
+    let start = c .before .before .before .before in
+    let p = c .before .before .before .cross-product in
+    let q = c .before .before .cross-product2 in
+    record { after = λ us cone. keep-high (vec (start .args .u)) cone
+    (above-yes (p .ensures) (p .ok) (c .before .if1 .taken)) (below-no (q .ensures) (q .ok) (c .if2 .left)) }
+
+returns-3 : tie.Need-returns-3
+returns-3 c =
+    let start = c .before .before .before .before .before in
+    let p = c .before .before .before .before .cross-product in
+    let q = c .before .before .before .cross-product2 in
+    record { after = λ us cone. low (vec (start .args .u)) cone
+    (above-yes (q .ensures) (q .ok) (c .before .if3 .taken)) (below-yes (p .ensures) (p .ok) (c .if4 .taken)) }
+
+returns-4 : tie.Need-returns-4
+returns-4 c =
+    let start = c .before .before .before .before .before in
+    let p = c .before .before .before .before .cross-product in
+    let q = c .before .before .before .cross-product2 in
+    record { after = λ us cone. keep-low (vec (start .args .u)) cone
+    (above-yes (q .ensures) (q .ok) (c .before .if3 .taken)) (below-no (p .ensures) (p .ok) (c .if4 .left)) }
+
+returns-5 : tie.Need-returns-5
+returns-5 c =
+    let start = c .before .before .before .before .before in
+    let p = c .before .before .before .before .cross-product in
+    let q = c .before .before .before .cross-product2 in
+    record { after = λ us cone. against-low (vec (start .args .u)) cone
+    (below-yes (p .ensures) (p .ok) (c .if5 .taken)) (above-no (q .ensures) (q .ok) (c .before .if3 .left)) }
+
+returns-6 : tie.Need-returns-6
+returns-6 c =
+    let start = c .before .before .before .before .before .before in
+    let p = c .before .before .before .before .before .cross-product in
+    let q = c .before .before .before .before .cross-product2 in
+    record { after = λ us cone. against-high (vec (start .args .u)) cone
+    (above-no (p .ensures) (p .ok) (c .before .before .before .if1 .left)) (below-yes (q .ensures) (q .ok) (c .if6 .taken)) }
+
+dot-product-requires : tie.Need-dot-product-requires
+dot-product-requires c κs = search needs
+
+returns-7 : tie.Need-returns-7
+returns-7 c =
+    let start = c .before .before .before .before .before .before .before .before in
+    let p = c .before .before .before .before .before .before .before .cross-product in
+    let q = c .before .before .before .before .before .before .cross-product2 in
+    record { after = λ us cone. keep-along (vec (start .args .u)) cone
+    (≤≥ _ (above-no (p .ensures) (p .ok) (c .before .before .before .before .before .if1 .left)) (below-no (p .ensures) (p .ok) (c .before .before .before .if5 .left)))
+    (≤≥ _ (above-no (q .ensures) (q .ok) (c .before .before .before .before .if3 .left)) (below-no (q .ensures) (q .ok) (c .before .before .if6 .left)))
+    (above-yes (c .before .dot-product .ensures) (c .before .dot-product .ok) (c .if7 .taken)) }
+
+returns-8 : tie.Need-returns-8
+returns-8 c =
+    let start = c .before .before .before .before .before .before .before .before in
+    let p = c .before .before .before .before .before .before .before .cross-product in
+    let q = c .before .before .before .before .before .before .cross-product2 in
+    record { after = λ us cone. against-along (vec (start .args .u)) cone
+    (≤≥ _ (above-no (p .ensures) (p .ok) (c .before .before .before .before .before .if1 .left)) (below-no (p .ensures) (p .ok) (c .before .before .before .if5 .left)))
+    (≤≥ _ (above-no (q .ensures) (q .ok) (c .before .before .before .before .if3 .left)) (below-no (q .ensures) (q .ok) (c .before .before .if6 .left)))
+    (above-no (c .before .dot-product .ensures) (c .before .dot-product .ok) (c .if7 .left)) }
+
+pub step-spec : {M : Type 1} → statement M
+step-spec =
+    tie.close
+    (tie.spec
+    cross-product-requires
+    cross-product-requires-2
+    returns
+    returns-2
+    returns-3
+    returns-4
+    returns-5
+    returns-6
+    dot-product-requires
+    returns-7
+    returns-8)

@@ -1,0 +1,6 @@
+pub mod Monotone
+pub mod MonotoneLaws
+pub mod Plane
+pub mod PathEdges
+pub mod Cones
+pub mod Rows
