@@ -27,6 +27,12 @@ pub record Adds (P : List ℕ) (step : ℕ → ℕ) (X : List ℕ) : Type 0 wher
   pub root : getD X 0 0 ≡ 0
   pub at : (v : ℕ) → 0 < v → v < length P → getD X v 0 ≡ getD X (parent P v) 0 + step v
 
+-- the same steps
+pub adds-cong : {P : List ℕ} {g h : ℕ → ℕ} {X : List ℕ} → Adds P g X
+    → ((z : ℕ) → 0 < z → z < length P → g z ≡ h z) → Adds P h X
+adds-cong {P} {X = X} adds same =
+    record { root = adds .root; at = λ v a l. adds .at v a l ∙ ap (λ k. getD X (parent P v) 0 + k) (same v a l) }
+
 ------------------------------------------------------------------------
 -- Enough steps
 
@@ -92,6 +98,10 @@ module _ {P R : List ℕ} (tree : Tree P R) where
           adds .at z a h
           ∙ ap (λ i. i + g z) (go k (parent P z) (tree .inside z h) (climb-shift P k z ∙ e))
           ∙ sym (path-step g z a h))
+
+  pub path-cong : (g h : ℕ → ℕ) → ((z : ℕ) → 0 < z → z < length P → g z ≡ h z) → (v : ℕ) → v < length P
+      → pathSum P g v ≡ pathSum P h v
+  path-cong g h same v l = sym (adds-path (path-adds g) v l) ∙ adds-path (adds-cong (path-adds g) same) v l
 
   ------------------------------------------------------------------------
   -- Bounds
