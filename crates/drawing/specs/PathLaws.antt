@@ -145,7 +145,16 @@ module _ {P R : List ℕ} (tree : Tree P R) where
           let some = numbering tree .from-1 z h in
           let here = path-step g z a h in
           by-eq (parent P z) 0
-          (λ q. omega (arith, ap (pathSum P g) q, path-root g, ap (postNumber P R) q, root-last tree,
-              sum-term step (postNumber P R z - 1) (length P - 1) (omega (arith, ap (postNumber P R) q, root-last tree))))
-          (λ ne. omega (arith, sum-term step (postNumber P R z - 1) (postNumber P R (parent P z) - 1) (omega arith),
-              go k (parent P z) (omega arith) (tree .inside z h) (climb-shift P k z ∙ e)))
+          (λ q. omega (
+            arith,
+            ap (pathSum P g) q,
+            path-root g,
+            ap (postNumber P R) q,
+            root-last tree,
+            sum-term step (postNumber P R z - 1) (length P - 1) (omega (arith, ap (postNumber P R) q, root-last tree)),
+          ))
+          (λ ne. omega (
+            arith,
+            sum-term step (postNumber P R z - 1) (postNumber P R (parent P z) - 1) (omega arith),
+            go k (parent P z) (omega arith) (tree .inside z h) (climb-shift P k z ∙ e),
+          ))

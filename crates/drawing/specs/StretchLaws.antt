@@ -47,8 +47,11 @@ module _ {P R : List ℕ} (tree : Tree P R) where
   pub parent-out : (v : ℕ) → 0 < v → v < length P → under P v (parent P v) ≡ false
   parent-out v a l =
       by-test (under P v (parent P v))
-      (λ t. absurd (omega (arith, numbering tree .parent-later v a l,
-      ap (postNumber P R) (under-antisym tree v (parent P v) l (tree .inside v l) t (under-parent tree v l)))))
+      (λ t. absurd (omega (
+        arith,
+        numbering tree .parent-later v a l,
+        ap (postNumber P R) (under-antisym tree v (parent P v) l (tree .inside v l) t (under-parent tree v l)),
+      )))
       (λ t. t)
 
   pub root-out : (v : ℕ) → 0 < v → v < length P → under P v 0 ≡ false
@@ -269,4 +272,23 @@ module _ {P R : List ℕ} (tree : Tree P R) {rule : Rule} {limit v c : ℕ} (av 
           (λ ne. omega (arith, m .other z lz ne, d .some z lz));
       x = coordinate-back acrossOf (m .x) (d .x);
       y = coordinate-back upOf (m .y) (d .y);
+    }
+
+-- by no count nothing changes
+pub stretch-0 : {P R : List ℕ} {rule : Rule} {limit v : ℕ} {s : Drawing} → Drawn limit P R rule s → Stretch P R rule v 0 s s
+stretch-0 {P} {R} {rule} {v = v} {s} d = record {
+  from-long = d .long;
+  to-long = d .long;
+  here = omega arith;
+  other = λ z l ne. refl;
+  x = still (s .x) (d .x .long) (acrossOf (edge P R rule v));
+  y = still (s .y) (d .y .long) (upOf (edge P R rule v));
+}
+  where
+    still : (X : List ℕ) → length X ≡ length P → (part : ℕ) → Moved P v (0 * part) X X
+    still X long part = record {
+      from-long = long;
+      to-long = long;
+      at = λ z l. by-test (under P v z) (λ t. omega (arith, offset-in P v (0 * part) z t))
+          (λ f. omega (arith, offset-out P v (0 * part) z f));
     }
