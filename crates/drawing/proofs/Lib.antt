@@ -1,2 +1,3 @@
 pub mod Conjunction
 pub mod Maximum
+pub mod Laying

@@ -15,6 +15,7 @@
 --   beyond limit n s          == some place is beyond the limit
 --   drawingFault L ..         == refusals 1 to 10 at the limits L
 --   layout, lengthen, shorten == the calls: what they answer, and the drawing that they leave
+--   lent times x y            == the drawing that three lists hold
 --   Laid, Lengthened, Shortened == the calls' contracts
 use mathlib.Core.Bool.{Bool, cond, not, _&&_, _||_}
 use mathlib.Core.List.{List, [], _∷_}
@@ -141,6 +142,10 @@ shorten L P R rule s work v c =
 
 ------------------------------------------------------------------------
 -- The contracts: s and W are the drawing and the work list at entry, t and X those at exit
+
+-- the drawing that three lent lists hold
+abbrev pub lent : List ℕ → List ℕ → List ℕ → Drawing
+lent times x y = record { times = times; x = x; y = y }
 
 -- refusals 1 to 3 leave the work list
 abbrev pub Spared : Limits → List ℕ → List ℕ → Drawing → List ℕ → List ℕ → Type 0

@@ -16,7 +16,7 @@ use Rattle.drawing.specs.declared.Framed.{Framed}
 use Rattle.drawing.specs.declared.Framed.the-variants.{Frame, Refused}
 use Rattle.drawing.specs.Drawing.{Drawing, Outcome, edge, sumUp, pathSum, freshPlaces, fresh, largest, frame}
 use Rattle.drawing.specs.Drawing.{placed, nodeFits, moved, stretched, beyond, settle, drawingFault}
-use Rattle.drawing.specs.Drawing.{layout, lengthen, shorten}
+use Rattle.drawing.specs.Drawing.{layout, lengthen, shorten, lent}
 
 ------------------------------------------------------------------------
 -- Rows
@@ -39,9 +39,6 @@ infix 75 _leaving_
 abbrev _leaving_ : Framed → Drawing → Outcome
 a leaving s = record { answer = a; drawing = s }
 
-abbrev drawing : List ℕ → List ℕ → List ℕ → Drawing
-drawing times x y = record { times = times; x = x; y = y }
-
 ------------------------------------------------------------------------
 -- Tables and drawings
 
@@ -53,16 +50,16 @@ fiveRanks = 0 ∷ 0 ∷ 1 ∷ 0 ∷ 1 ∷ []
 
 -- whatever the lists hold before
 abbrev anyFive : Drawing
-anyFive = drawing (7 ∷ 7 ∷ 7 ∷ 7 ∷ 7 ∷ []) (7 ∷ 7 ∷ 7 ∷ 7 ∷ 7 ∷ []) (7 ∷ 7 ∷ 7 ∷ 7 ∷ 7 ∷ [])
+anyFive = lent (7 ∷ 7 ∷ 7 ∷ 7 ∷ 7 ∷ []) (7 ∷ 7 ∷ 7 ∷ 7 ∷ 7 ∷ []) (7 ∷ 7 ∷ 7 ∷ 7 ∷ 7 ∷ [])
 
 abbrev steep : Drawing
-steep = drawing (1 ∷ 1 ∷ 1 ∷ 1 ∷ 1 ∷ []) (0 ∷ 1 ∷ 1 ∷ 2 ∷ 2 ∷ []) (0 ∷ 3 ∷ 4 ∷ 4 ∷ 5 ∷ [])
+steep = lent (1 ∷ 1 ∷ 1 ∷ 1 ∷ 1 ∷ []) (0 ∷ 1 ∷ 1 ∷ 2 ∷ 2 ∷ []) (0 ∷ 3 ∷ 4 ∷ 4 ∷ 5 ∷ [])
 
 abbrev balanced : Drawing
-balanced = drawing (1 ∷ 1 ∷ 1 ∷ 1 ∷ 1 ∷ []) (0 ∷ 3 ∷ 1 ∷ 6 ∷ 5 ∷ []) (0 ∷ 2 ∷ 1 ∷ 3 ∷ 3 ∷ [])
+balanced = lent (1 ∷ 1 ∷ 1 ∷ 1 ∷ 1 ∷ []) (0 ∷ 3 ∷ 1 ∷ 6 ∷ 5 ∷ []) (0 ∷ 2 ∷ 1 ∷ 3 ∷ 3 ∷ [])
 
 abbrev stretchedOne : Drawing
-stretchedOne = drawing (1 ∷ 3 ∷ 1 ∷ 1 ∷ 1 ∷ []) (0 ∷ 3 ∷ 1 ∷ 4 ∷ 4 ∷ []) (0 ∷ 9 ∷ 4 ∷ 10 ∷ 11 ∷ [])
+stretchedOne = lent (1 ∷ 3 ∷ 1 ∷ 1 ∷ 1 ∷ []) (0 ∷ 3 ∷ 1 ∷ 4 ∷ 4 ∷ []) (0 ∷ 9 ∷ 4 ∷ 10 ∷ 11 ∷ [])
 
 abbrev one : List ℕ
 one = 0 ∷ []
@@ -71,10 +68,10 @@ abbrev two : List ℕ
 two = 0 ∷ 0 ∷ []
 
 abbrev freshTwo : Drawing
-freshTwo = drawing (1 ∷ 1 ∷ []) (0 ∷ 1 ∷ []) (0 ∷ 1 ∷ [])
+freshTwo = lent (1 ∷ 1 ∷ []) (0 ∷ 1 ∷ []) (0 ∷ 1 ∷ [])
 
 abbrev farTwo : Drawing
-farTwo = drawing (1 ∷ 2147483647 ∷ []) (0 ∷ 2147483647 ∷ []) (0 ∷ 2147483647 ∷ [])
+farTwo = lent (1 ∷ 2147483647 ∷ []) (0 ∷ 2147483647 ∷ []) (0 ∷ 2147483647 ∷ [])
 
 ------------------------------------------------------------------------
 -- The table
@@ -86,7 +83,7 @@ rows =
     ∷ lengthen large fiveParents fiveRanks Steep steep 20 1 2 answers Frame 4 11 leaving stretchedOne
     ∷ shorten large fiveParents fiveRanks Steep stretchedOne 20 1 3 answers Refused 12 1 leaving stretchedOne
     ∷ shorten large fiveParents fiveRanks Steep stretchedOne 20 1 2 answers Frame 2 5 leaving steep
-    ∷ layout large one one Balanced (drawing (9 ∷ []) (9 ∷ []) (9 ∷ [])) 4 answers Frame 0 0 leaving drawing (1 ∷ []) one one
+    ∷ layout large one one Balanced (lent (9 ∷ []) (9 ∷ []) (9 ∷ [])) 4 answers Frame 0 0 leaving lent (1 ∷ []) one one
     ∷ lengthen large two two Steep freshTwo 8 1 2147483646 answers Frame 2147483647 2147483647 leaving farTwo
     ∷ lengthen large two two Steep freshTwo 8 1 2147483647 answers Refused 11 1 leaving freshTwo
     ∷ []

@@ -1,9 +1,33 @@
 -- What the parts of the calls need and leave.
 --
---   by longer a d       == a and d more, or d less
+--   by longer a d          == a and d more, or d less
+--   NumberedTree P R W     == P and R are an accepted table, and the work list W holds its post-order numbers
+--   Blank P R rule s W     == the lists of s are ready for a fresh drawing
 use mathlib.Core.Bool.{Bool, true, false}
-use Prim.Native.Nat.{ℕ, _+_, _-_}
+use mathlib.Core.List.{List}
+use mathlib.Core.Path.{_≡_}
+use Prim.Native.Nat.{ℕ, _+_, _-_, _^_, _≤_, _<_}
+use lib.ListN.{length}
+use Rattle.table.specs.Numbering.{Numbered}
+use Rattle.table.specs.TableLaws.{Tree}
+use Rattle.slopes.specs.declared.Rule.{Rule}
+use Rattle.slopes.specs.SlopeLaws.{acrossBound, upBound}
+use Rattle.drawing.specs.Drawing.{Drawing}
 
 abbrev pub by : Bool → ℕ → ℕ → ℕ
 by true a d = a + d
 by false a d = a - d
+
+pub record NumberedTree (P R W : List ℕ) : Type 0 where
+  pub tree : Tree P R
+  pub few : length P < 2 ^ 32
+  pub numbers : Numbered P R W
+
+-- lists of n numbers, with places below 2^32
+pub record Blank (P R : List ℕ) (rule : Rule) (s : Drawing) (W : List ℕ) : Type 0 where
+  pub numbered : NumberedTree P R W
+  pub times : length (s .times) ≡ length P
+  pub x : length (s .x) ≡ length P
+  pub y : length (s .y) ≡ length P
+  pub wide : acrossBound rule (length P) < 2 ^ 32
+  pub tall : upBound rule (length P) < 2 ^ 32
