@@ -1,3 +1,4 @@
 pub mod Conjunction
 pub mod Maximum
 pub mod Laying
+pub mod Settling

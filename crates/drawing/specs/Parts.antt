@@ -2,17 +2,22 @@
 --
 --   by longer a d          == a and d more, or d less
 --   NumberedTree P R W     == P and R are an accepted table, and the work list W holds its post-order numbers
+--   Prepared L .. r        == the answer r is refusals 1 to 7 of a call on the drawing s; if none, the table is numbered
 --   Blank P R rule s W     == the lists of s are ready for a fresh drawing
 use mathlib.Core.Bool.{Bool, true, false}
 use mathlib.Core.List.{List}
 use mathlib.Core.Path.{_≡_}
 use Prim.Native.Nat.{ℕ, _+_, _-_, _^_, _≤_, _<_}
 use lib.ListN.{length}
+use Rattle.table.specs.declared.Limits.{Limits}
+use Rattle.table.specs.declared.Validity.{Validity}
+use Rattle.table.specs.declared.Validity.the-variants.{Accepted}
 use Rattle.table.specs.Numbering.{Numbered}
+use Rattle.table.specs.Table.{allLong, tableFault, validity}
 use Rattle.table.specs.TableLaws.{Tree}
 use Rattle.slopes.specs.declared.Rule.{Rule}
 use Rattle.slopes.specs.SlopeLaws.{acrossBound, upBound}
-use Rattle.drawing.specs.Drawing.{Drawing}
+use Rattle.drawing.specs.Drawing.{Drawing, lists, Spared}
 
 abbrev pub by : Bool → ℕ → ℕ → ℕ
 by true a d = a + d
@@ -22,6 +27,11 @@ pub record NumberedTree (P R W : List ℕ) : Type 0 where
   pub tree : Tree P R
   pub few : length P < 2 ^ 32
   pub numbers : Numbered P R W
+
+pub record Prepared (L : Limits) (P R : List ℕ) (s : Drawing) (W X : List ℕ) (r : Validity) : Type 0 where
+  pub answer : r ≡ validity (tableFault L P R (allLong (length P) (lists s)) (length W))
+  pub spared : Spared L P R s W X
+  pub numbered : r ≡ Accepted → NumberedTree P R X
 
 -- lists of n numbers, with places below 2^32
 pub record Blank (P R : List ℕ) (rule : Rule) (s : Drawing) (W : List ℕ) : Type 0 where
