@@ -96,7 +96,7 @@ pub record Laying (P R : List ℕ) (rule : Rule) (s : Drawing) (j : ℕ) : Type 
 
 module _ {P R : List ℕ} {rule : Rule} {s : Drawing} {W : List ℕ} (b : Blank P R rule s W) where
   tree : Tree P R
-  tree = b .numbered .tree
+  tree = b .sized .numbered .tree
 
   drawn : Drawn (2 ^ 32 - 1) P R rule (fresh P R rule)
   drawn = fresh-drawn tree rule (omega (arith, b .wide)) (omega (arith, b .tall))
@@ -107,9 +107,9 @@ module _ {P R : List ℕ} {rule : Rule} {s : Drawing} {W : List ℕ} (b : Blank 
       let n = tree .some in
       record {
         low = omega arith;
-        times = root (s .times) (drawn .long) (b .times) 1 (sym (drawn .root-once)) p;
-        x = root (s .x) (drawn .x .long) (b .x) 0 (sym (drawn .x .adds .root)) q;
-        y = root (s .y) (drawn .y .long) (b .y) 0 (sym (drawn .y .adds .root)) r;
+        times = root (s .times) (drawn .long) (b .sized .times) 1 (sym (drawn .root-once)) p;
+        x = root (s .x) (drawn .x .long) (b .sized .x) 0 (sym (drawn .x .adds .root)) q;
+        y = root (s .y) (drawn .y .long) (b .sized .y) 0 (sym (drawn .y .adds .root)) r;
       }
     where
       root : {F Y : List ℕ} (X : List ℕ) → length F ≡ length P → length X ≡ length P → (a : ℕ) → a ≡ getD F 0 0 → Y ≡ set X 0 a

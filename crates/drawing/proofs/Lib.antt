@@ -2,3 +2,4 @@ pub mod Conjunction
 pub mod Maximum
 pub mod Laying
 pub mod Settling
+pub mod Fitting

@@ -22,7 +22,7 @@ use Rattle.drawing.specs.CallLaws.{settle-none, settle-some}
 use Rattle.drawing.specs.Drawing.{Drawing, Outcome, lists, fresh, frame, Spared, Laid, layout}
 use Rattle.drawing.specs.DrawingLaws.{three-long}
 use Rattle.drawing.specs.FreshLaws.{Roomy}
-use Rattle.drawing.specs.Parts.{NumberedTree, Prepared, Blank}
+use Rattle.drawing.specs.Parts.{Prepared, Sized, Blank}
 
 -- where the table is accepted, the work list may change
 never-spared : (L : Limits) (P R : List ℕ) (long : Bool) (work : ℕ) (f : Refusal) → tableFault L P R long work ≡ none
@@ -76,17 +76,18 @@ module _ {L : Limits} {P R : List ℕ} {s : Drawing} {W X : List ℕ} {r : Valid
   pub fault : {k z : ℕ} → r ≡ Refused k z → tableFault L P R (allLong (length P) (lists s)) (length W) ≡ refusal k z
   fault {k} {z} e = validity-refused _ k z (sym (p .answer) ∙ e)
 
+  pub sized : r ≡ Accepted → Sized P R s X
+  sized e =
+      let three = three-long (length P) s (accepting L P R _ (length W) (no-fault e) .shape .others) in
+      record { numbered = p .numbered e; times = three .0; x = three .1; y = three .2 }
+
   pub blank : {rule : Rule} → L .place < 2 ^ 32 → Roomy L → r ≡ Accepted → Blank P R rule s X
   blank {rule} low room e =
-      let a = accepting L P R _ (length W) (no-fault e) in
-      let three = three-long (length P) s (a .shape .others) in
+      let few = accepting L P R _ (length W) (no-fault e) .shape .few in
       record {
-        numbered = p .numbered e;
-        times = three .0;
-        x = three .1;
-        y = three .2;
-        wide = omega (arith, room .across rule (length P) (a .shape .few));
-        tall = omega (arith, room .up rule (length P) (a .shape .few));
+        sized = sized e;
+        wide = omega (arith, room .across rule (length P) few);
+        tall = omega (arith, room .up rule (length P) few);
       }
 
   pub laid-refused : {rule : Rule} {k z : ℕ} → r ≡ Refused k z → Laid L P R rule s W s X (framed.Refused k z)

@@ -106,10 +106,10 @@ module _ (limit : ℕ) (P R : List ℕ) (rule : Rule) where
         node v a l = both _ _ (sym (placed-node v a) ∙ all v l)
 
   module _ (s : Drawing) where
-    bothPlaced : ℕ → Bool
+    unfoldable pub bothPlaced : ℕ → Bool
     bothPlaced v = placed limit P R rule (s .times) acrossOf (s .x) v && placed limit P R rule (s .times) upOf (s .y) v
 
-    fits-root : nodeFits limit P R rule s 0 ≡ eqb (getD (s .times) 0 0) 1 && bothPlaced 0
+    pub fits-root : nodeFits limit P R rule s 0 ≡ eqb (getD (s .times) 0 0) 1 && bothPlaced 0
     unfolding nodeFits bothPlaced
     fits-root = refl
 

@@ -17,22 +17,22 @@ abbrev μ-loop : tie.MeasureT-loop
 put-requires : tie.Need-put-requires Inv-loop μ-loop
 put-requires c κs =
     let at-entry = c .before .before .before .before .before .before .before in
-    (omega (arith, at-entry .pre .numbered .tree .some, at-entry .pre .times), omega arith)
+    (omega (arith, at-entry .pre .sized .numbered .tree .some, at-entry .pre .sized .times), omega arith)
 
 put-requires-2 : tie.Need-put-requires-2 Inv-loop μ-loop
 put-requires-2 c κs =
     let at-entry = c .before .before .before .before .before .before .before .before .before .before .before in
-    (omega (arith, at-entry .pre .numbered .tree .some, at-entry .pre .x), omega arith)
+    (omega (arith, at-entry .pre .sized .numbered .tree .some, at-entry .pre .sized .x), omega arith)
 
 put-requires-3 : tie.Need-put-requires-3 Inv-loop μ-loop
 put-requires-3 c κs =
     let at-entry = c .before .before .before .before .before .before .before .before .before .before .before .before .before .before .before in
-    (omega (arith, at-entry .pre .numbered .tree .some, at-entry .pre .y), omega arith)
+    (omega (arith, at-entry .pre .sized .numbered .tree .some, at-entry .pre .sized .y), omega arith)
 
 sub-j : tie.Need-sub-j Inv-loop μ-loop
 sub-j c =
     let at-entry = c .before .before .before .before .before .before .before .before .before .before .before .before .before .before .before .before .before .before in
-    omega (arith, at-entry .pre .numbered .tree .some)
+    omega (arith, at-entry .pre .sized .numbered .tree .some)
 
 loop-holds : tie.Need-loop-holds Inv-loop μ-loop
 loop-holds c =
@@ -45,13 +45,13 @@ loop-holds c =
 mul-get : tie.Need-mul-get Inv-loop μ-loop
 mul-get c =
     let at-entry = c .before .before .before .before .before .before .before .before .before .before .before .before .before .before .before .before .before .before .before .before in
-    omega (arith, at-entry .pre .numbered .few)
+    omega (arith, at-entry .pre .sized .numbered .few)
 
 add-get : tie.Need-add-get Inv-loop μ-loop
 add-get c =
     let at-loop = c .before in
     let at-entry = at-loop .before .before .before .before .before .before .before .before .before .before .before .before .before .before .before .before .before .before .before in
-    omega (arith, at-entry .pre .numbered .few, at-loop .loop .inv .low)
+    omega (arith, at-entry .pre .sized .numbered .few, at-loop .loop .inv .low)
 
 sub-get : tie.Need-sub-get Inv-loop μ-loop
 sub-get c = omega arith
@@ -60,21 +60,21 @@ get-requires : tie.Need-get-requires Inv-loop μ-loop
 get-requires c κs =
     let at-loop = c .before in
     let at-entry = at-loop .before .before .before .before .before .before .before .before .before .before .before .before .before .before .before .before .before .before .before in
-    omega (arith, at-entry .pre .numbered .numbers .long, at-loop .loop .inv .low)
+    omega (arith, at-entry .pre .sized .numbered .numbers .long, at-loop .loop .inv .low)
 
 get-requires-2 : tie.Need-get-requires-2 Inv-loop μ-loop
 get-requires-2 c κs =
     let at-loop-test = c .before in
     let at-loop = at-loop-test .before in
     let at-entry = at-loop .before .before .before .before .before .before .before .before .before .before .before .before .before .before .before .before .before .before .before in
-    next-node (at-entry .pre .numbered) (at-loop-test .loop-test .taken) (at-loop .loop .inv .low) (c .get .ensures .0) .inside
+    next-node (at-entry .pre .sized .numbered) (at-loop-test .loop-test .taken) (at-loop .loop .inv .low) (c .get .ensures .0) .inside
 
 slope-at-requires : tie.Need-slope-at-requires Inv-loop μ-loop
 slope-at-requires c κs =
     let at-loop-test = c .before .before in
     let at-loop = at-loop-test .before in
     let at-entry = at-loop .before .before .before .before .before .before .before .before .before .before .before .before .before .before .before .before .before .before .before in
-    (at-loop-test .loop-test .taken, at-loop .loop .inv .low, omega (arith, at-entry .pre .numbered .few))
+    (at-loop-test .loop-test .taken, at-loop .loop .inv .low, omega (arith, at-entry .pre .sized .numbered .few))
 
 put-requires-4 : tie.Need-put-requires-4 Inv-loop μ-loop
 put-requires-4 c κs =
@@ -82,7 +82,7 @@ put-requires-4 c κs =
     let at-loop-test = at-get .before in
     let at-loop = at-loop-test .before in
     let at-entry = at-loop .before .before .before .before .before .before .before .before .before .before .before .before .before .before .before .before .before .before .before in
-    let node = next-node (at-entry .pre .numbered) (at-loop-test .loop-test .taken) (at-loop .loop .inv .low) (at-get .get .ensures .0) in
+    let node = next-node (at-entry .pre .sized .numbered) (at-loop-test .loop-test .taken) (at-loop .loop .inv .low) (at-get .get .ensures .0) in
     (omega (arith, at-loop .loop .inv .times .long, node .inside), omega arith)
 
 hang-requires : tie.Need-hang-requires Inv-loop μ-loop
@@ -93,7 +93,7 @@ hang-requires c κs =
     let at-loop-test = at-get .before in
     let at-loop = at-loop-test .before in
     let at-entry = at-loop .before .before .before .before .before .before .before .before .before .before .before .before .before .before .before .before .before .before .before in
-    let node = next-node (at-entry .pre .numbered) (at-loop-test .loop-test .taken) (at-loop .loop .inv .low) (at-get .get .ensures .0) in
+    let node = next-node (at-entry .pre .sized .numbered) (at-loop-test .loop-test .taken) (at-loop .loop .inv .low) (at-get .get .ensures .0) in
     laying-x (at-entry .pre) (at-loop .loop .inv) node (at-get2 .get2 .ensures .0) (at-slope-at .slope-at .ensures)
 
 hang-requires-2 : tie.Need-hang-requires-2 Inv-loop μ-loop
@@ -104,7 +104,7 @@ hang-requires-2 c κs =
     let at-loop-test = at-get .before in
     let at-loop = at-loop-test .before in
     let at-entry = at-loop .before .before .before .before .before .before .before .before .before .before .before .before .before .before .before .before .before .before .before in
-    let node = next-node (at-entry .pre .numbered) (at-loop-test .loop-test .taken) (at-loop .loop .inv .low) (at-get .get .ensures .0) in
+    let node = next-node (at-entry .pre .sized .numbered) (at-loop-test .loop-test .taken) (at-loop .loop .inv .low) (at-get .get .ensures .0) in
     laying-y (at-entry .pre) (at-loop .loop .inv) node (at-get2 .get2 .ensures .0) (at-slope-at .slope-at .ensures)
 
 sub-j-2 : tie.Need-sub-j-2 Inv-loop μ-loop
@@ -124,7 +124,7 @@ loop-again c =
     let at-loop-test = at-get .before in
     let at-loop = at-loop-test .before in
     let at-entry = at-loop .before .before .before .before .before .before .before .before .before .before .before .before .before .before .before .before .before .before .before in
-    let node = next-node (at-entry .pre .numbered) (at-loop-test .loop-test .taken) (at-loop .loop .inv .low) (at-get .get .ensures .0) in
+    let node = next-node (at-entry .pre .sized .numbered) (at-loop-test .loop-test .taken) (at-loop .loop .inv .low) (at-get .get .ensures .0) in
     laying-step (at-entry .pre) (at-loop .loop .inv) node (at-get2 .get2 .ensures .0) (at-slope-at .slope-at .ensures)
     (at-loop-test .loop-test .taken) (at-put4 .put4 .ensures) (at-hang .hang .ensures) (at-hang2 .hang2 .ensures)
 
@@ -132,19 +132,19 @@ same-length : tie.Need-same-length Inv-loop μ-loop
 same-length c =
     let at-loop = c .before in
     let at-entry = at-loop .before .before .before .before .before .before .before .before .before .before .before .before .before .before .before .before .before .before .before in
-    at-loop .loop .inv .times .long ∙ sym (at-entry .pre .times)
+    at-loop .loop .inv .times .long ∙ sym (at-entry .pre .sized .times)
 
 same-length-2 : tie.Need-same-length-2 Inv-loop μ-loop
 same-length-2 c =
     let at-loop = c .before in
     let at-entry = at-loop .before .before .before .before .before .before .before .before .before .before .before .before .before .before .before .before .before .before .before in
-    at-loop .loop .inv .x .long ∙ sym (at-entry .pre .x)
+    at-loop .loop .inv .x .long ∙ sym (at-entry .pre .sized .x)
 
 same-length-3 : tie.Need-same-length-3 Inv-loop μ-loop
 same-length-3 c =
     let at-loop = c .before in
     let at-entry = at-loop .before .before .before .before .before .before .before .before .before .before .before .before .before .before .before .before .before .before .before in
-    at-loop .loop .inv .y .long ∙ sym (at-entry .pre .y)
+    at-loop .loop .inv .y .long ∙ sym (at-entry .pre .sized .y)
 
 returns : tie.Need-returns Inv-loop μ-loop
 returns c =
