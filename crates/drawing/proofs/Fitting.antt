@@ -1,0 +1,84 @@
+-- The test of refusal 8, node by node: the least node that does not fit.
+use mathlib.Core.Bool.{Bool, true, false, not, _&&_}
+use mathlib.Core.List.{List}
+use mathlib.Core.Path.{_≡_, refl, sym, ap, ap₂, subst⁻¹, _∙_}
+use Prim.Native.Nat.{ℕ, _+_, _*_, _^_, _≤_, _<_}
+use native.Mathlib.Nat.{mul-le-mul}
+use native.Mathlib.Omega.{arith}
+use lib.Dec.{leb, eqb}
+use lib.ListN.{length, getD}
+use borrow.Author.Tests.{lt-leb, le-leb, eqb-true}
+use Rattle.laws.specs.Search.{least}
+use Rattle.laws.specs.SearchLaws.{least-is}
+use Rattle.laws.specs.Tests.{by-test, by-eq}
+use Rattle.table.specs.Numbering.{numbering}
+use Rattle.table.specs.Table.{parent, postNumber}
+use Rattle.slopes.specs.declared.Rule.{Rule}
+use Rattle.slopes.specs.declared.Slope.{Slope}
+use Rattle.slopes.specs.Slopes.{acrossOf, upOf, slopeAt}
+use Rattle.drawing.specs.Drawing.{Drawing, edge, placed, nodeFits}
+use Rattle.drawing.specs.DrawingLaws.{stepOf, placed-root, placed-node, fits-root, fits-node}
+use Rattle.drawing.specs.Parts.{NumberedTree, Sized}
+use Rattle.drawing.proofs.Conjunction.{first-fails, first-holds}
+
+------------------------------------------------------------------------
+-- Numbers that fit
+
+-- a product of two 32-bit numbers leaves room for a third in 64 bits
+pub product-fits : (a b : ℕ) → a < 2 ^ 32 → b < 2 ^ 32 → a * b + 2 ^ 32 ≤ 2 ^ 64
+product-fits a b h g =
+    let low : a ≤ 4294967295 = omega arith in
+    let less : b ≤ 4294967295 = omega arith in
+    omega (arith, mul-le-mul low less)
+
+------------------------------------------------------------------------
+-- The edge of a node
+
+module _ {P R W : List ℕ} (t : NumberedTree P R W) {v : ℕ} (above : 0 < v) (inside : v < length P) where
+  pub edge-number : {j : ℕ} → j ≡ getD W v 0 → (1 ≤ j) × (j < length P) × (length P ≤ 2 ^ 32)
+  edge-number e =
+      let n = numbering (t .tree) in
+      let is = t .numbers .last v inside in
+      (
+        omega (arith, n .from-1 v inside),
+        omega (arith, n .parent-later v above inside, n .to-n (parent P v) (t .tree .inside v inside)),
+        omega (arith, t .few),
+      )
+
+  pub edge-slope : (rule : Rule) {j : ℕ} {slope : Slope} → j ≡ getD W v 0 → slope ≡ slopeAt rule (length P) j
+      → slope ≡ edge P R rule v
+  unfolding edge
+  edge-slope rule e is = is ∙ ap (slopeAt rule (length P)) (e ∙ t .numbers .last v inside)
+
+------------------------------------------------------------------------
+-- One node
+
+module _ (limit : ℕ) (P R : List ℕ) (rule : Rule) (s : Drawing) {v t p : ℕ} {slope : Slope} (above : 0 < v)
+    (times : t ≡ getD (s .times) v 0) (up : p ≡ parent P v) (is : slope ≡ edge P R rule v) where
+  placed-is : (part : Slope → ℕ) (X : List ℕ) {r : Bool}
+      → r ≡ (eqb (getD X v 0) (getD X p 0 + t * part slope) && leb (getD X v 0) limit)
+      → r ≡ placed limit P R rule (s .times) part X v
+  placed-is part X e =
+      e ∙ ap₂ (λ a b. eqb (getD X v 0) (a + b) && leb (getD X v 0) limit) (ap (λ k. getD X k 0) up)
+      (ap₂ (λ a b. a * part b) times is)
+      ∙ sym (placed-node limit P R rule (s .times) part X v above)
+
+  pub fits-not-x : {r : Bool} → 1 ≤ t
+      → r ≡ (eqb (getD (s .x) v 0) (getD (s .x) p 0 + t * slope .across) && leb (getD (s .x) v 0) limit)
+      → r ≡ false → false ≡ nodeFits limit P R rule s v
+  fits-not-x some e fails =
+      first-fails _ (sym (placed-is acrossOf (s .x) e) ∙ fails) ∙ first-holds _ (le-leb 1 (getD (s .times) v 0) (omega arith))
+      ∙ sym (fits-node limit P R rule s v above)
+
+  pub fits-x : {r q : Bool} → 1 ≤ t
+      → r ≡ (eqb (getD (s .x) v 0) (getD (s .x) p 0 + t * slope .across) && leb (getD (s .x) v 0) limit) → r ≡ true
+      → q ≡ (eqb (getD (s .y) v 0) (getD (s .y) p 0 + t * slope .up) && leb (getD (s .y) v 0) limit)
+      → q ≡ nodeFits limit P R rule s v
+  fits-x some e ok f =
+      placed-is upOf (s .y) f ∙ first-holds _ (sym (placed-is acrossOf (s .x) e) ∙ ok)
+      ∙ first-holds _ (le-leb 1 (getD (s .times) v 0) (omega arith)) ∙ sym (fits-node limit P R rule s v above)
+
+pub fits-never : (limit : ℕ) (P R : List ℕ) (rule : Rule) (s : Drawing) {v t : ℕ} → 0 < v → t ≡ getD (s .times) v 0 → t < 1
+    → false ≡ nodeFits limit P R rule s v
+fits-never limit P R rule s {v} above e none =
+    first-fails _ (lt-leb 1 (getD (s .times) v 0) (omega arith)) ∙ sym (fits-node limit P R rule s v above)

@@ -1,0 +1,5 @@
+pub mod Conjunction
+pub mod Maximum
+pub mod Laying
+pub mod Settling
+pub mod Fitting

@@ -1,0 +1,180 @@
+-- What the test of refusal 8 says of a drawing, and what the frame is.
+--
+--   Coordinate limit .. part X    == X has the places of a drawing, in the coordinate that adds up `part`, within the limit
+--   Drawn limit P R rule s        == s is a drawing of the table under the rule (document 01: a sheet)
+--   fits-drawn, drawn-fits        == it is one exactly when every node fits
+--   largest-above, largest-found  == the largest of a list is above all, and one of them or 0
+use mathlib.Core.Bool.{Bool, true, cond, _&&_}
+use mathlib.Core.List.{List, [], _∷_}
+use mathlib.Core.Logic.{_⊎_, inl, inr, ⊎-elim}
+use mathlib.Core.Path.{_≡_, refl, sym, ap, subst, subst⁻¹, _∙_}
+use Prim.Native.Nat.{ℕ, zero, suc, _+_, _*_, _≤_, _<_, max}
+use native.Mathlib.Omega.{arith}
+use lib.Dec.{leb, eqb}
+use lib.ListN.{length, getD}
+use borrow.Author.Tests.{eqb-true, eq-eqb, ne-eqb, leb-true, le-leb}
+use Rattle.laws.specs.Tests.{by-eq, by-lt, both, both-is}
+use Rattle.table.specs.Table.{parent, allLong}
+use Rattle.slopes.specs.declared.Rule.{Rule}
+use Rattle.slopes.specs.declared.Slope.{Slope}
+use Rattle.slopes.specs.Slopes.{acrossOf, upOf}
+use Rattle.drawing.specs.Drawing.{Drawing, lists, edge, largest, placed, nodeFits}
+use Rattle.drawing.specs.PathLaws.{Adds}
+
+------------------------------------------------------------------------
+-- Drawings
+
+-- what times and the part of its slope add to v's place
+abbrev pub stepOf : List ℕ → List ℕ → Rule → (Slope → ℕ) → List ℕ → ℕ → ℕ
+stepOf P R rule part times v = getD times v 0 * part (edge P R rule v)
+
+pub record Coordinate (limit : ℕ) (P R : List ℕ) (rule : Rule) (times : List ℕ) (part : Slope → ℕ) (X : List ℕ) : Type 0 where
+  pub long : length X ≡ length P
+  pub adds : Adds P (stepOf P R rule part times) X
+  pub within : (v : ℕ) → v < length P → getD X v 0 ≤ limit
+
+pub record Drawn (limit : ℕ) (P R : List ℕ) (rule : Rule) (s : Drawing) : Type 0 where
+  pub long : length (s .times) ≡ length P
+  pub root-once : getD (s .times) 0 0 ≡ 1
+  pub some : (v : ℕ) → v < length P → 1 ≤ getD (s .times) v 0
+  pub x : Coordinate limit P R rule (s .times) acrossOf (s .x)
+  pub y : Coordinate limit P R rule (s .times) upOf (s .y)
+
+------------------------------------------------------------------------
+-- The lengths
+
+pub all-three : (n : ℕ) (s : Drawing) → length (s .times) ≡ n → length (s .x) ≡ n → length (s .y) ≡ n
+    → allLong n (lists s) ≡ true
+unfolding allLong
+all-three n s t x y = both-is (eq-eqb _ n t) (both-is (eq-eqb _ n x) (both-is (eq-eqb _ n y) refl))
+
+pub three-long : (n : ℕ) (s : Drawing) → allLong n (lists s) ≡ true
+    → (length (s .times) ≡ n) × (length (s .x) ≡ n) × (length (s .y) ≡ n)
+unfolding allLong
+three-long n s e =
+    let t = both (eqb (length (s .times)) n) _ e in
+    let x = both (eqb (length (s .x)) n) _ (t .1) in
+    let y = both (eqb (length (s .y)) n) _ (x .1) in
+    (eqb-true _ n (t .0), eqb-true _ n (x .0), eqb-true _ n (y .0))
+
+------------------------------------------------------------------------
+-- The test of a node
+
+module _ {A : Type 0} (a b : A) where
+  cond-node : (v : ℕ) → 0 < v → cond (eqb v 0) a b ≡ b
+  cond-node v l = ap (λ t. cond t a b) (ne-eqb v 0 (λ e. omega arith))
+
+module _ (limit : ℕ) (P R : List ℕ) (rule : Rule) where
+  module _ (times : List ℕ) (part : Slope → ℕ) (X : List ℕ) where
+    abbrev step : ℕ → ℕ
+    step = stepOf P R rule part times
+
+    pub placed-root : placed limit P R rule times part X 0 ≡ eqb (getD X 0 0) 0 && leb (getD X 0 0) limit
+    unfolding placed
+    placed-root = refl
+
+    pub placed-node : (v : ℕ) → 0 < v
+        → placed limit P R rule times part X v
+        ≡ eqb (getD X v 0) (getD X (parent P v) 0 + step v) && leb (getD X v 0) limit
+    unfolding placed
+    placed-node v a = ap (λ z. eqb (getD X v 0) z && leb (getD X v 0) limit) (cond-node 0 _ v a)
+
+    coordinate-placed : Coordinate limit P R rule times part X → (v : ℕ) → v < length P
+        → placed limit P R rule times part X v ≡ true
+    coordinate-placed c v l =
+        by-eq v 0
+        (λ e. subst⁻¹ (λ z. placed limit P R rule times part X z ≡ true) e
+        (placed-root ∙ both-is (eq-eqb (getD X 0 0) 0 (c .adds .root)) (le-leb (getD X 0 0) limit (omega (arith, c .adds .root)))))
+        (λ ne.
+        let a : 0 < v = omega arith in
+        placed-node v a ∙ both-is (eq-eqb (getD X v 0) _ (c .adds .at v a l)) (le-leb (getD X v 0) limit (c .within v l)))
+
+    placed-coordinate : 0 < length P → length X ≡ length P
+        → ((v : ℕ) → v < length P → placed limit P R rule times part X v ≡ true) → Coordinate limit P R rule times part X
+    placed-coordinate n long all =
+        let root = both (eqb (getD X 0 0) 0) (leb (getD X 0 0) limit) (sym placed-root ∙ all 0 n) in
+        let zero : getD X 0 0 ≡ 0 = eqb-true (getD X 0 0) 0 (root .0) in
+        record {
+          long = long;
+          adds = record { root = zero; at = λ v a l. eqb-true (getD X v 0) _ (node v a l .0) };
+          within = λ v l. by-eq v 0 (λ e. omega (arith, ap (λ z. getD X z 0) e))
+              (λ ne. leb-true (getD X v 0) limit (node v (omega arith) l .1));
+        }
+      where
+        node : (v : ℕ) → 0 < v → v < length P
+            → (eqb (getD X v 0) (getD X (parent P v) 0 + step v) ≡ true) × (leb (getD X v 0) limit ≡ true)
+        node v a l = both _ _ (sym (placed-node v a) ∙ all v l)
+
+  module _ (s : Drawing) where
+    unfoldable pub bothPlaced : ℕ → Bool
+    bothPlaced v = placed limit P R rule (s .times) acrossOf (s .x) v && placed limit P R rule (s .times) upOf (s .y) v
+
+    pub fits-root : nodeFits limit P R rule s 0 ≡ eqb (getD (s .times) 0 0) 1 && bothPlaced 0
+    unfolding nodeFits bothPlaced
+    fits-root = refl
+
+    pub fits-node : (v : ℕ) → 0 < v
+        → nodeFits limit P R rule s v
+        ≡ leb 1 (getD (s .times) v 0)
+        && (placed limit P R rule (s .times) acrossOf (s .x) v && placed limit P R rule (s .times) upOf (s .y) v)
+    unfolding nodeFits
+    fits-node v a =
+        ap (λ b. b && (placed limit P R rule (s .times) acrossOf (s .x) v && placed limit P R rule (s .times) upOf (s .y) v))
+        (cond-node _ _ v a)
+
+    pub drawn-fits : Drawn limit P R rule s → (v : ℕ) → v < length P → nodeFits limit P R rule s v ≡ true
+    unfolding bothPlaced
+    drawn-fits d v l =
+        by-eq v 0
+        (λ e. subst⁻¹ (λ z. nodeFits limit P R rule s z ≡ true) e
+        (fits-root ∙ both-is (eq-eqb (getD (s .times) 0 0) 1 (d .root-once)) (subst (λ z. bothPlaced z ≡ true) e there)))
+        (λ ne. fits-node v (omega arith) ∙ both-is (le-leb 1 (getD (s .times) v 0) (d .some v l)) there)
+      where
+        there : bothPlaced v ≡ true
+        there = both-is (coordinate-placed (s .times) acrossOf (s .x) (d .x) v l) (coordinate-placed (s .times) upOf (s .y) (d .y) v l)
+
+    pub fits-drawn : 0 < length P → allLong (length P) (lists s) ≡ true
+        → ((v : ℕ) → v < length P → nodeFits limit P R rule s v ≡ true) → Drawn limit P R rule s
+    unfolding bothPlaced
+    fits-drawn n long all =
+        let three = three-long (length P) s long in
+        let once : getD (s .times) 0 0 ≡ 1 = eqb-true (getD (s .times) 0 0) 1 (root .0) in
+        record {
+          long = three .0;
+          root-once = once;
+          some = λ v l. by-eq v 0 (λ e. omega (arith, ap (λ z. getD (s .times) z 0) e))
+              (λ ne. leb-true 1 (getD (s .times) v 0) (node v (omega arith) l .0));
+          x = placed-coordinate (s .times) acrossOf (s .x) n (three .1) (λ v l. there v l .0);
+          y = placed-coordinate (s .times) upOf (s .y) n (three .2) (λ v l. there v l .1);
+        }
+      where
+        root : (eqb (getD (s .times) 0 0) 1 ≡ true) × (bothPlaced 0 ≡ true)
+        root = both _ _ (sym fits-root ∙ all 0 n)
+
+        node : (v : ℕ) → 0 < v → v < length P → (leb 1 (getD (s .times) v 0) ≡ true) × (bothPlaced v ≡ true)
+        node v a l = both _ _ (sym (fits-node v a) ∙ all v l)
+
+        there : (v : ℕ) → v < length P
+            → (placed limit P R rule (s .times) acrossOf (s .x) v ≡ true) × (placed limit P R rule (s .times) upOf (s .y) v ≡ true)
+        there v l =
+            both _ _
+            (by-eq v 0 (λ e. subst⁻¹ (λ z. bothPlaced z ≡ true) e (root .1)) (λ ne. node v (omega arith) l .1))
+
+------------------------------------------------------------------------
+-- The frame
+
+pub largest-above : (l : List ℕ) (k : ℕ) → k < length l → getD l k 0 ≤ largest l
+unfolding largest
+largest-above [] k h = absurd (omega arith)
+largest-above (a ∷ l) zero h = omega arith
+largest-above (a ∷ l) (suc k) h = omega (arith, largest-above l k (omega arith))
+
+pub largest-found : (l : List ℕ) → (largest l ≡ 0) ⊎ ((k : ℕ) × (k < length l) × (getD l k 0 ≡ largest l))
+unfolding largest
+largest-found [] = inl refl
+largest-found (a ∷ l) =
+    by-lt a (largest l)
+    (λ h. ⊎-elim (λ e. inl (omega arith))
+    (λ (f : (k : ℕ) × (k < length l) × (getD l k 0 ≡ largest l)). inr (suc (f .0), omega (arith, f .1), omega (arith, f .2)))
+    (largest-found l))
+    (λ h. inr (0, omega arith, omega arith))

@@ -1,0 +1,106 @@
+-- A fresh drawing is a drawing, within document 01's bounds.
+--
+--   Roomy L           == every fresh drawing that the limits L accept is within them
+--   roomy             == four comparisons of numbers show that
+--   fresh-bounds      == document 01's bounds of a fresh sheet
+--   fresh-drawn       == a fresh drawing is a drawing
+use mathlib.Core.List.{List}
+use mathlib.Core.Path.{_≡_, refl, sym, ap, _∙_}
+use Prim.Native.Nat.{ℕ, zero, suc, _+_, _-_, _*_, _/_, _^_, _≤_, _<_}
+use native.Mathlib.Nat.{mul-le-mul, pow-le-pow-right}
+use native.Mathlib.Omega.{arith}
+use lib.ListN.{length, getD, length-replicate, getD-replicate}
+use Rattle.laws.specs.SearchLaws.{length-tabulate, getD-tabulate}
+use Rattle.laws.specs.Sums.{sum}
+use Rattle.table.specs.declared.Limits.{Limits}
+use Rattle.table.specs.Numbering.{numbering}
+use Rattle.table.specs.Table.{postNumber, large}
+use Rattle.table.specs.TableLaws.{Tree}
+use Rattle.slopes.specs.declared.Rule.{Rule}
+use Rattle.slopes.specs.declared.Rule.the-variants.{Steep, Balanced}
+use Rattle.slopes.specs.declared.Slope.{Slope}
+use Rattle.slopes.specs.SlopeLaws.{levelsFor-least, acrossBound, upBound, across-sum, up-sum}
+use Rattle.slopes.specs.Slopes.{acrossOf, upOf, levelsFor, slopeAt}
+use Rattle.drawing.specs.Drawing.{edge, pathSum, freshPlaces, fresh}
+use Rattle.drawing.specs.DrawingLaws.{Coordinate, Drawn}
+use Rattle.drawing.specs.PathLaws.{Adds, adds-cong, path-adds, path-cong, path-bound}
+
+------------------------------------------------------------------------
+-- Bounds
+
+module _ {P R : List ℕ} (tree : Tree P R) (rule : Rule) (part : Slope → ℕ) where
+  pub fresh-sum : (v : ℕ) → v < length P
+      → getD (freshPlaces P R rule part) v 0 ≤ sum (λ i. part (slopeAt rule (length P) (suc i))) (length P - 1)
+  unfolding freshPlaces edge
+  fresh-sum v l =
+      let step : ℕ → ℕ = λ i. part (slopeAt rule (length P) (suc i)) in
+      let same = path-cong tree (λ z. part (edge P R rule z)) (λ z. step (postNumber P R z - 1))
+      (λ z a b. ap (λ j. part (slopeAt rule (length P) j)) (omega (arith, numbering tree .from-1 z b))) v l in
+      omega (arith, getD-tabulate (length P) (pathSum P (λ z. part (edge P R rule z))) v l, path-bound tree step v l)
+
+pub fresh-bounds : {P R : List ℕ} → Tree P R → (rule : Rule) (v : ℕ) → v < length P
+    → (getD (fresh P R rule .x) v 0 ≤ acrossBound rule (length P)) × (getD (fresh P R rule .y) v 0 ≤ upBound rule (length P))
+unfolding fresh
+fresh-bounds {P} tree rule v l = (
+  omega (arith, fresh-sum tree rule acrossOf v l, across-sum rule (length P) (tree .some)),
+  omega (arith, fresh-sum tree rule upOf v l, up-sum rule (length P) (tree .some)),
+)
+
+------------------------------------------------------------------------
+-- Limits
+
+pub record Roomy (L : Limits) : Type 0 where
+  pub across : (rule : Rule) (n : ℕ) → n ≤ L .nodes → acrossBound rule n ≤ L .place
+  pub up : (rule : Rule) (n : ℕ) → n ≤ L .nodes → upBound rule n ≤ L .place
+
+pub roomy : (L : Limits) (k : ℕ) → L .nodes ≤ 2 ^ k → 3 ^ k ≤ 2 * L .place + 1 → L .nodes ≤ L .place + 1
+    → L .nodes * (L .nodes - 1) ≤ 2 * L .place + 1 → Roomy L
+roomy L k enough balanced wide tall = record { across = across; up = up }
+  where
+    few : (n : ℕ) → n ≤ L .nodes → (3 ^ levelsFor n - 1) / 2 ≤ L .place
+    few n h =
+        let levels : levelsFor n ≤ k = levelsFor-least n k (omega arith) in
+        omega (arith, pow-le-pow-right {n = 3} (omega arith) levels)
+
+    across : (rule : Rule) (n : ℕ) → n ≤ L .nodes → acrossBound rule n ≤ L .place
+    across Steep n h = omega arith
+    across Balanced n h = few n h
+
+    up : (rule : Rule) (n : ℕ) → n ≤ L .nodes → upBound rule n ≤ L .place
+    up Steep n h =
+        let less : n - 1 ≤ L .nodes - 1 = omega arith in
+        omega (arith, mul-le-mul h less)
+    up Balanced n h = few n h
+
+pub large-roomy : Roomy large
+large-roomy = roomy large 16 (omega arith) (omega arith) (omega arith) (omega arith)
+
+------------------------------------------------------------------------
+-- The fresh drawing
+
+module _ {P R : List ℕ} (tree : Tree P R) (rule : Rule) where
+  fresh-coordinate : {limit : ℕ} (part : Slope → ℕ)
+      → ((v : ℕ) → v < length P → getD (freshPlaces P R rule part) v 0 ≤ limit)
+      → Coordinate limit P R rule (fresh P R rule .times) part (freshPlaces P R rule part)
+  unfolding fresh freshPlaces
+  fresh-coordinate part fits = record {
+    long = length-tabulate (length P) _;
+    adds = adds-cong (path-adds tree (λ z. part (edge P R rule z)))
+        (λ z a l. omega (arith, ap (λ k. k * part (edge P R rule z)) (getD-replicate {A = ℕ} (length P) z 1 0 l)));
+    within = fits;
+  }
+
+  pub fresh-once : (v : ℕ) → v < length P → getD (fresh P R rule .times) v 0 ≡ 1
+  unfolding fresh
+  fresh-once v l = getD-replicate {A = ℕ} (length P) v 1 0 l
+
+  pub fresh-drawn : {limit : ℕ} → acrossBound rule (length P) ≤ limit → upBound rule (length P) ≤ limit
+      → Drawn limit P R rule (fresh P R rule)
+  unfolding fresh
+  fresh-drawn wide tall = record {
+    long = length-replicate (length P) 1;
+    root-once = fresh-once 0 (tree .some);
+    some = λ v l. omega (arith, fresh-once v l);
+    x = fresh-coordinate acrossOf (λ v l. omega (arith, fresh-bounds tree rule v l .0));
+    y = fresh-coordinate upOf (λ v l. omega (arith, fresh-bounds tree rule v l .1));
+  }

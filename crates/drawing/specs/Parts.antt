@@ -1,0 +1,52 @@
+-- What the parts of the calls need and leave.
+--
+--   by longer a d          == a and d more, or d less
+--   NumberedTree P R W     == P and R are an accepted table, and the work list W holds its post-order numbers
+--   Prepared L .. r        == the answer r is refusals 1 to 7 of a call on the drawing s; if none, the table is numbered
+--   Sized P R s W          == the lists of s are as long as the table, which is numbered
+--   Blank P R rule s W     == and a fresh drawing has places below 2^32
+--   Checked L .. r         == the answer r is refusals 1 to 10 of a call on the drawing s
+use mathlib.Core.Bool.{Bool, true, false}
+use mathlib.Core.List.{List}
+use mathlib.Core.Path.{_≡_}
+use Prim.Native.Nat.{ℕ, _+_, _-_, _^_, _≤_, _<_}
+use lib.ListN.{length}
+use Rattle.table.specs.declared.Limits.{Limits}
+use Rattle.table.specs.declared.Validity.{Validity}
+use Rattle.table.specs.declared.Validity.the-variants.{Accepted}
+use Rattle.table.specs.Numbering.{Numbered}
+use Rattle.table.specs.Table.{allLong, tableFault, validity}
+use Rattle.table.specs.TableLaws.{Tree}
+use Rattle.slopes.specs.declared.Rule.{Rule}
+use Rattle.slopes.specs.SlopeLaws.{acrossBound, upBound}
+use Rattle.drawing.specs.Drawing.{Drawing, lists, drawingFault, Spared}
+
+abbrev pub by : Bool → ℕ → ℕ → ℕ
+by true a d = a + d
+by false a d = a - d
+
+pub record NumberedTree (P R W : List ℕ) : Type 0 where
+  pub tree : Tree P R
+  pub few : length P < 2 ^ 32
+  pub numbers : Numbered P R W
+
+pub record Prepared (L : Limits) (P R : List ℕ) (s : Drawing) (W X : List ℕ) (r : Validity) : Type 0 where
+  pub answer : r ≡ validity (tableFault L P R (allLong (length P) (lists s)) (length W))
+  pub spared : Spared L P R s W X
+  pub numbered : r ≡ Accepted → NumberedTree P R X
+
+pub record Sized (P R : List ℕ) (s : Drawing) (W : List ℕ) : Type 0 where
+  pub numbered : NumberedTree P R W
+  pub times : length (s .times) ≡ length P
+  pub x : length (s .x) ≡ length P
+  pub y : length (s .y) ≡ length P
+
+pub record Blank (P R : List ℕ) (rule : Rule) (s : Drawing) (W : List ℕ) : Type 0 where
+  pub sized : Sized P R s W
+  pub wide : acrossBound rule (length P) < 2 ^ 32
+  pub tall : upBound rule (length P) < 2 ^ 32
+
+pub record Checked (L : Limits) (P R : List ℕ) (rule : Rule) (s : Drawing) (W : List ℕ) (v : ℕ) (X : List ℕ) (r : Validity) : Type 0 where
+  pub answer : r ≡ validity (drawingFault L P R rule s (length W) v)
+  pub spared : Spared L P R s W X
+  pub sized : r ≡ Accepted → Sized P R s X
