@@ -1,0 +1,256 @@
+//! The calls of `include/lineage.h`, one to one, on slices.
+//!
+//! The lists that a call changes are `&mut`, so no two of them overlap, as the header asks. Each call takes lists of any
+//! length and any contents; what it cannot take it refuses. It returns `false`, having written nothing, where `reply` is not
+//! three numbers long.
+
+/// The C functions themselves.
+mod c {
+    extern "C" {
+        pub fn lineage_layout(
+            balanced: bool,
+            parent: *const u32,
+            parents: usize,
+            rank: *const u32,
+            ranks: usize,
+            times: *mut u32,
+            times_length: usize,
+            x: *mut u32,
+            x_length: usize,
+            y: *mut u32,
+            y_length: usize,
+            work: *mut u32,
+            work_length: usize,
+            reply: *mut i64,
+            reply_length: usize,
+        ) -> bool;
+        pub fn lineage_lengthen(
+            balanced: bool,
+            parent: *const u32,
+            parents: usize,
+            rank: *const u32,
+            ranks: usize,
+            times: *mut u32,
+            times_length: usize,
+            x: *mut u32,
+            x_length: usize,
+            y: *mut u32,
+            y_length: usize,
+            work: *mut u32,
+            work_length: usize,
+            lot: u32,
+            count: u32,
+            reply: *mut i64,
+            reply_length: usize,
+        ) -> bool;
+        pub fn lineage_shorten(
+            balanced: bool,
+            parent: *const u32,
+            parents: usize,
+            rank: *const u32,
+            ranks: usize,
+            times: *mut u32,
+            times_length: usize,
+            x: *mut u32,
+            x_length: usize,
+            y: *mut u32,
+            y_length: usize,
+            work: *mut u32,
+            work_length: usize,
+            lot: u32,
+            count: u32,
+            reply: *mut i64,
+            reply_length: usize,
+        ) -> bool;
+        pub fn lineage_direction(
+            balanced: bool,
+            parent: *const u32,
+            parents: usize,
+            rank: *const u32,
+            ranks: usize,
+            work: *mut u32,
+            work_length: usize,
+            from: u32,
+            to: u32,
+            reply: *mut i64,
+            reply_length: usize,
+        ) -> bool;
+        pub fn lineage_check(
+            parent: *const u32,
+            parents: usize,
+            rank: *const u32,
+            ranks: usize,
+            x: *const u32,
+            x_length: usize,
+            y: *const u32,
+            y_length: usize,
+            work: *mut u32,
+            work_length: usize,
+            reply: *mut i64,
+            reply_length: usize,
+        ) -> bool;
+        pub fn lineage_read_tree(
+            bytes: *const u8,
+            bytes_length: usize,
+            parent: *mut u32,
+            parents: usize,
+            rank: *mut u32,
+            ranks: usize,
+            work: *mut u32,
+            work_length: usize,
+            reply: *mut i64,
+            reply_length: usize,
+        ) -> bool;
+        pub fn lineage_write_tree(
+            parent: *const u32,
+            parents: usize,
+            rank: *const u32,
+            ranks: usize,
+            bytes: *mut u8,
+            bytes_length: usize,
+            work: *mut u32,
+            work_length: usize,
+            reply: *mut i64,
+            reply_length: usize,
+        ) -> bool;
+    }
+}
+
+/// A call's reply: {0, number, lot} where it refused, otherwise as the call says.
+pub type Reply = [i64; 3];
+
+/// The three lists of a sheet, lent to a call.
+pub struct Lists<'a> {
+    pub times: &'a mut [u32],
+    pub x: &'a mut [u32],
+    pub y: &'a mut [u32],
+}
+
+macro_rules! lend {
+    ($s:expr) => {
+        ($s.as_ptr(), $s.len())
+    };
+}
+
+macro_rules! lend_mut {
+    ($s:expr) => {
+        ($s.as_mut_ptr(), $s.len())
+    };
+}
+
+/// {1, width, height}.
+pub fn layout(
+    balanced: bool,
+    parent: &[u32],
+    rank: &[u32],
+    s: Lists,
+    work: &mut [u32],
+    reply: &mut [i64],
+) -> bool {
+    let ((p, pn), (r, rn)) = (lend!(parent), lend!(rank));
+    let ((t, tn), (x, xn), (y, yn)) = (lend_mut!(s.times), lend_mut!(s.x), lend_mut!(s.y));
+    let ((w, wn), (q, qn)) = (lend_mut!(work), lend_mut!(reply));
+    // SAFETY: each pointer has its slice's length, and the slices live through the call; those written are exclusive.
+    unsafe { c::lineage_layout(balanced, p, pn, r, rn, t, tn, x, xn, y, yn, w, wn, q, qn) }
+}
+
+/// {1, width, height}.
+#[allow(clippy::too_many_arguments)]
+pub fn lengthen(
+    balanced: bool,
+    parent: &[u32],
+    rank: &[u32],
+    s: Lists,
+    work: &mut [u32],
+    lot: u32,
+    count: u32,
+    reply: &mut [i64],
+) -> bool {
+    let ((p, pn), (r, rn)) = (lend!(parent), lend!(rank));
+    let ((t, tn), (x, xn), (y, yn)) = (lend_mut!(s.times), lend_mut!(s.x), lend_mut!(s.y));
+    let ((w, wn), (q, qn)) = (lend_mut!(work), lend_mut!(reply));
+    // SAFETY: as in `layout`.
+    unsafe {
+        c::lineage_lengthen(balanced, p, pn, r, rn, t, tn, x, xn, y, yn, w, wn, lot, count, q, qn)
+    }
+}
+
+/// {1, width, height}.
+#[allow(clippy::too_many_arguments)]
+pub fn shorten(
+    balanced: bool,
+    parent: &[u32],
+    rank: &[u32],
+    s: Lists,
+    work: &mut [u32],
+    lot: u32,
+    count: u32,
+    reply: &mut [i64],
+) -> bool {
+    let ((p, pn), (r, rn)) = (lend!(parent), lend!(rank));
+    let ((t, tn), (x, xn), (y, yn)) = (lend_mut!(s.times), lend_mut!(s.x), lend_mut!(s.y));
+    let ((w, wn), (q, qn)) = (lend_mut!(work), lend_mut!(reply));
+    // SAFETY: as in `layout`.
+    unsafe {
+        c::lineage_shorten(balanced, p, pn, r, rn, t, tn, x, xn, y, yn, w, wn, lot, count, q, qn)
+    }
+}
+
+/// {1, d, e}.
+pub fn direction(
+    balanced: bool,
+    parent: &[u32],
+    rank: &[u32],
+    work: &mut [u32],
+    from: u32,
+    to: u32,
+    reply: &mut [i64],
+) -> bool {
+    let ((p, pn), (r, rn)) = (lend!(parent), lend!(rank));
+    let ((w, wn), (q, qn)) = (lend_mut!(work), lend_mut!(reply));
+    // SAFETY: as in `layout`.
+    unsafe { c::lineage_direction(balanced, p, pn, r, rn, w, wn, from, to, q, qn) }
+}
+
+/// {1, 0, 0} where the drawing is monotone, {2, u, v} where the path from u to v turns.
+pub fn check(
+    parent: &[u32],
+    rank: &[u32],
+    x: &[u32],
+    y: &[u32],
+    work: &mut [u32],
+    reply: &mut [i64],
+) -> bool {
+    let ((p, pn), (r, rn), (x, xn), (y, yn)) = (lend!(parent), lend!(rank), lend!(x), lend!(y));
+    let ((w, wn), (q, qn)) = (lend_mut!(work), lend_mut!(reply));
+    // SAFETY: as in `layout`.
+    unsafe { c::lineage_check(p, pn, r, rn, x, xn, y, yn, w, wn, q, qn) }
+}
+
+/// {1, n, 0}.
+pub fn read_tree(
+    bytes: &[u8],
+    parent: &mut [u32],
+    rank: &mut [u32],
+    work: &mut [u32],
+    reply: &mut [i64],
+) -> bool {
+    let ((b, bn), (p, pn), (r, rn)) = (lend!(bytes), lend_mut!(parent), lend_mut!(rank));
+    let ((w, wn), (q, qn)) = (lend_mut!(work), lend_mut!(reply));
+    // SAFETY: as in `layout`.
+    unsafe { c::lineage_read_tree(b, bn, p, pn, r, rn, w, wn, q, qn) }
+}
+
+/// {1, bytes, 0}.
+pub fn write_tree(
+    parent: &[u32],
+    rank: &[u32],
+    bytes: &mut [u8],
+    work: &mut [u32],
+    reply: &mut [i64],
+) -> bool {
+    let ((p, pn), (r, rn), (b, bn)) = (lend!(parent), lend!(rank), lend_mut!(bytes));
+    let ((w, wn), (q, qn)) = (lend_mut!(work), lend_mut!(reply));
+    // SAFETY: as in `layout`.
+    unsafe { c::lineage_write_tree(p, pn, r, rn, b, bn, w, wn, q, qn) }
+}

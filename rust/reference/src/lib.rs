@@ -1,0 +1,485 @@
+//! Document 01 in plain Rust: written from the document and built otherwise than the proved code, so that the two can be
+//! held against each other. Trees are child lists walked by recursion, balanced slopes are fractions made level by level
+//! and sorted, a check tries candidate directions on the vectors of each path. All sums are 128 bits wide.
+
+use std::cmp::Ordering;
+use std::collections::{HashMap, HashSet};
+
+pub mod random;
+
+/// What a call refuses with: a number and a lot.
+pub type Refusal = (u32, u32);
+
+/// The largest place on a sheet.
+pub const LIMIT: i128 = 2_147_483_647;
+
+/// Numbers that refuse without a touch to the work list.
+pub fn spares_work(number: i64) -> bool {
+    matches!(number, 1 | 2 | 3 | 14 | 16 | 17)
+}
+
+/// An accepted table as child lists, in rank order.
+pub struct Tree {
+    pub parent: Vec<usize>,
+    pub children: Vec<Vec<usize>>,
+}
+
+/// A slope (across, up).
+pub type Slope = (i128, i128);
+
+/// Refusals 1 to 7. `others` are the lengths of the lent lists besides the parent list; `most` lots, or else `surplus`.
+pub fn accept(
+    parent: &[u32],
+    rank: &[u32],
+    others: &[usize],
+    work: usize,
+    most: usize,
+    surplus: u32,
+) -> Result<Tree, Refusal> {
+    let n = parent.len();
+    if n == 0 {
+        return Err((1, 0));
+    }
+    if n > most {
+        return Err((surplus, 0));
+    }
+    if rank.len() != n || others.iter().any(|&l| l != n) || work != 4 * n {
+        return Err((3, 0));
+    }
+    accept_lists(parent, rank)
+}
+
+/// Refusals 4 to 7.
+pub fn accept_lists(parent: &[u32], rank: &[u32]) -> Result<Tree, Refusal> {
+    let n = parent.len();
+    if (parent[0], rank[0]) != (0, 0) {
+        return Err((4, 0));
+    }
+    if let Some(v) = (1..n).find(|&v| parent[v] as usize >= n) {
+        return Err((5, v as u32));
+    }
+    let mut children: Vec<Vec<usize>> = vec![Vec::new(); n];
+    let mut holders: HashMap<(u32, u32), u32> = HashMap::new();
+    for v in 1..n {
+        children[parent[v] as usize].push(v);
+        *holders.entry((parent[v], rank[v])).or_default() += 1;
+    }
+    let bad = |v: usize| {
+        rank[v] as usize >= children[parent[v] as usize].len() || holders[&(parent[v], rank[v])] > 1
+    };
+    if let Some(v) = (1..n).find(|&v| bad(v)) {
+        return Err((6, v as u32));
+    }
+    for list in &mut children {
+        list.sort_by_key(|&v| rank[v]);
+    }
+    let mut reached = HashSet::new();
+    reach(&children, 0, &mut reached);
+    if let Some(v) = (1..n).find(|v| !reached.contains(v)) {
+        return Err((7, v as u32));
+    }
+    Ok(Tree { parent: parent.iter().map(|&p| p as usize).collect(), children })
+}
+
+fn reach(children: &[Vec<usize>], v: usize, reached: &mut HashSet<usize>) {
+    reached.insert(v);
+    for &c in &children[v] {
+        reach(children, c, reached);
+    }
+}
+
+impl Tree {
+    pub fn lots(&self) -> usize {
+        self.parent.len()
+    }
+
+    /// The lots in post-order: the subtrees of the children in rank order, then the lot.
+    pub fn post_order(&self) -> Vec<usize> {
+        fn walk(tree: &Tree, v: usize, order: &mut Vec<usize>) {
+            for &c in &tree.children[v] {
+                walk(tree, c, order);
+            }
+            order.push(v);
+        }
+        let mut order = Vec::new();
+        walk(self, 0, &mut order);
+        order
+    }
+
+    /// Each lot's edge slope; the root's is (0, 0).
+    pub fn slopes(&self, balanced: bool) -> Vec<Slope> {
+        let given = if balanced { balanced_slopes(self.lots()) } else { steep_slopes(self.lots()) };
+        let mut slopes = vec![(0, 0); self.lots()];
+        let mut order = self.post_order();
+        assert_eq!(order.pop(), Some(0));
+        for (&v, slope) in order.iter().zip(given) {
+            slopes[v] = slope;
+        }
+        slopes
+    }
+
+    /// A lot and its ancestors, up to the root.
+    pub fn way_up(&self, v: usize) -> Vec<usize> {
+        let mut way = vec![v];
+        while way[way.len() - 1] != 0 {
+            way.push(self.parent[way[way.len() - 1]]);
+        }
+        way
+    }
+
+    /// The lots of the tree path from u to v.
+    pub fn path(&self, u: usize, v: usize) -> Vec<usize> {
+        let (up, down) = (self.way_up(u), self.way_up(v));
+        let meeting = *up.iter().find(|z| down.contains(z)).unwrap();
+        let mut path: Vec<usize> = up.iter().copied().take_while(|&z| z != meeting).collect();
+        path.push(meeting);
+        let tail: Vec<usize> = down.iter().copied().take_while(|&z| z != meeting).collect();
+        path.extend(tail.iter().rev());
+        path
+    }
+
+    /// The lots of v's subtree.
+    pub fn subtree(&self, v: usize) -> Vec<usize> {
+        let mut lots = vec![v];
+        for &c in &self.children[v] {
+            lots.extend(self.subtree(c));
+        }
+        lots
+    }
+}
+
+/// (1, 1), (1, 2), ..
+pub fn steep_slopes(n: usize) -> Vec<Slope> {
+    (1..n).map(|j| (1, j as i128)).collect()
+}
+
+/// The first n - 1 of the fractions of k levels of the Stern-Brocot tree in increasing order, 2^k at least n.
+pub fn balanced_slopes(n: usize) -> Vec<Slope> {
+    let mut levels = 0;
+    while (1usize << levels) < n {
+        levels += 1;
+    }
+    // a fraction with the two that it was made between
+    let mut level = vec![((1, 0), (1, 1), (0, 1))];
+    let mut all: Vec<Slope> = Vec::new();
+    for _ in 0..levels {
+        let mut next = Vec::new();
+        for &(low, middle, high) in &level {
+            all.push(middle);
+            next.push((low, (low.0 + middle.0, low.1 + middle.1), middle));
+            next.push((middle, (middle.0 + high.0, middle.1 + high.1), high));
+        }
+        level = next;
+    }
+    all.sort_by(less_steep);
+    all.truncate(n - 1);
+    all
+}
+
+fn less_steep(a: &Slope, b: &Slope) -> Ordering {
+    (a.1 * b.0).cmp(&(b.1 * a.0))
+}
+
+/// The lists of a sheet.
+#[derive(Clone, Debug, PartialEq, Eq)]
+pub struct Sheet {
+    pub times: Vec<u32>,
+    pub x: Vec<u32>,
+    pub y: Vec<u32>,
+}
+
+impl Sheet {
+    pub fn lengths(&self) -> [usize; 3] {
+        [self.times.len(), self.x.len(), self.y.len()]
+    }
+
+    fn place(&self, v: usize) -> (i128, i128) {
+        (self.x[v] as i128, self.y[v] as i128)
+    }
+}
+
+/// A reply of three numbers, as include/lineage.h has them.
+pub type Reply = [i64; 3];
+
+fn refused((number, lot): Refusal) -> Reply {
+    [0, number as i64, lot as i64]
+}
+
+fn frame(s: &Sheet) -> Reply {
+    [1, *s.x.iter().max().unwrap() as i64, *s.y.iter().max().unwrap() as i64]
+}
+
+/// The places that these times give.
+pub fn places(tree: &Tree, slopes: &[Slope], times: &[u32]) -> Vec<(i128, i128)> {
+    fn hang(
+        tree: &Tree,
+        slopes: &[Slope],
+        times: &[u32],
+        v: usize,
+        at: (i128, i128),
+        all: &mut [(i128, i128)],
+    ) {
+        all[v] = at;
+        for &c in &tree.children[v] {
+            let long = times[c] as i128;
+            let there = (at.0 + long * slopes[c].0, at.1 + long * slopes[c].1);
+            hang(tree, slopes, times, c, there, all);
+        }
+    }
+    let mut all = vec![(0, 0); tree.lots()];
+    hang(tree, slopes, times, 0, (0, 0), &mut all);
+    all
+}
+
+pub fn layout(balanced: bool, parent: &[u32], rank: &[u32], s: &mut Sheet, work: usize) -> Reply {
+    let tree = match accept(parent, rank, &s.lengths(), work, 65_536, 2) {
+        Ok(tree) => tree,
+        Err(r) => return refused(r),
+    };
+    let times = vec![1; tree.lots()];
+    let places = places(&tree, &tree.slopes(balanced), &times);
+    s.x = places.iter().map(|p| p.0 as u32).collect();
+    s.y = places.iter().map(|p| p.1 as u32).collect();
+    s.times = times;
+    frame(s)
+}
+
+/// Refusals 1 to 10, and otherwise the tree and its slopes.
+fn open(
+    balanced: bool,
+    parent: &[u32],
+    rank: &[u32],
+    s: &Sheet,
+    work: usize,
+    lot: u32,
+) -> Result<(Tree, Vec<Slope>), Refusal> {
+    let tree = accept(parent, rank, &s.lengths(), work, 65_536, 2)?;
+    let slopes = tree.slopes(balanced);
+    for v in 0..tree.lots() {
+        let (time, (x, y)) = (s.times[v] as i128, s.place(v));
+        let right = if v == 0 {
+            (time, x, y) == (1, 0, 0)
+        } else {
+            let (px, py) = s.place(tree.parent[v]);
+            time >= 1 && x == px + time * slopes[v].0 && y == py + time * slopes[v].1
+        };
+        if !right || x > LIMIT || y > LIMIT {
+            return Err((8, v as u32));
+        }
+    }
+    if lot as usize >= tree.lots() {
+        return Err((9, 0));
+    }
+    if lot == 0 {
+        return Err((10, 0));
+    }
+    Ok((tree, slopes))
+}
+
+fn shift(s: &mut Sheet, lots: &[usize], by: (i128, i128)) {
+    for &z in lots {
+        s.x[z] = (s.x[z] as i128 + by.0) as u32;
+        s.y[z] = (s.y[z] as i128 + by.1) as u32;
+    }
+}
+
+#[allow(clippy::too_many_arguments)]
+pub fn lengthen(
+    balanced: bool,
+    parent: &[u32],
+    rank: &[u32],
+    s: &mut Sheet,
+    work: usize,
+    lot: u32,
+    count: u32,
+) -> Reply {
+    let (tree, slopes) = match open(balanced, parent, rank, s, work, lot) {
+        Ok(opened) => opened,
+        Err(r) => return refused(r),
+    };
+    let v = lot as usize;
+    let by = (slopes[v].0 * count as i128, slopes[v].1 * count as i128);
+    let lots = tree.subtree(v);
+    let beyond = |&z: &usize| s.x[z] as i128 + by.0 > LIMIT || s.y[z] as i128 + by.1 > LIMIT;
+    if lots.iter().any(beyond) {
+        return refused((11, lot));
+    }
+    shift(s, &lots, by);
+    s.times[v] += count;
+    frame(s)
+}
+
+#[allow(clippy::too_many_arguments)]
+pub fn shorten(
+    balanced: bool,
+    parent: &[u32],
+    rank: &[u32],
+    s: &mut Sheet,
+    work: usize,
+    lot: u32,
+    count: u32,
+) -> Reply {
+    let (tree, slopes) = match open(balanced, parent, rank, s, work, lot) {
+        Ok(opened) => opened,
+        Err(r) => return refused(r),
+    };
+    let v = lot as usize;
+    if count >= s.times[v] {
+        return refused((12, lot));
+    }
+    let by = (-slopes[v].0 * count as i128, -slopes[v].1 * count as i128);
+    shift(s, &tree.subtree(v), by);
+    s.times[v] -= count;
+    frame(s)
+}
+
+pub fn direction(
+    balanced: bool,
+    parent: &[u32],
+    rank: &[u32],
+    work: usize,
+    from: u32,
+    to: u32,
+) -> Reply {
+    let tree = match accept(parent, rank, &[], work, 65_536, 2) {
+        Ok(tree) => tree,
+        Err(r) => return refused(r),
+    };
+    let (u, v) = (from as usize, to as usize);
+    if u >= tree.lots() || v >= tree.lots() {
+        return refused((9, 0));
+    }
+    if u == v {
+        return refused((13, 0));
+    }
+    let (d, e) = heading(&tree, &tree.slopes(balanced), u, v);
+    [1, d as i64, e as i64]
+}
+
+/// The direction from u to v, which differ.
+pub fn heading(tree: &Tree, s: &[Slope], u: usize, v: usize) -> (i128, i128) {
+    let (up, down) = (tree.way_up(u), tree.way_up(v));
+    if down.contains(&u) {
+        return (1, 1);
+    }
+    if up.contains(&v) {
+        return (-1, -1);
+    }
+    let p = *up.iter().take_while(|z| !down.contains(z)).last().unwrap();
+    let q = *down.iter().take_while(|z| !up.contains(z)).last().unwrap();
+    let siblings = &tree.children[tree.parent[p]];
+    let place = |z| siblings.iter().position(|&c| c == z).unwrap();
+    if place(p) < place(q) {
+        (-(s[p].1 + s[v].1), s[p].0 + s[v].0)
+    } else {
+        (s[q].1 + s[u].1, -(s[q].0 + s[u].0))
+    }
+}
+
+pub fn check(parent: &[u32], rank: &[u32], x: &[u32], y: &[u32], work: usize) -> Reply {
+    let tree = match accept(parent, rank, &[x.len(), y.len()], work, 4096, 14) {
+        Ok(tree) => tree,
+        Err(r) => return refused(r),
+    };
+    let n = tree.lots();
+    if let Some(v) = (0..n).find(|&v| x[v] as i128 > LIMIT || y[v] as i128 > LIMIT) {
+        return refused((15, v as u32));
+    }
+    let places: Vec<(i128, i128)> = (0..n).map(|v| (x[v] as i128, y[v] as i128)).collect();
+    for u in 0..n {
+        for v in u + 1..n {
+            if !has_direction(&vectors(&places, &tree.path(u, v))) {
+                return [2, u as i64, v as i64];
+            }
+        }
+    }
+    [1, 0, 0]
+}
+
+/// The edges of a path, each walked from lot to lot.
+pub fn vectors(places: &[(i128, i128)], path: &[usize]) -> Vec<(i128, i128)> {
+    let step = |w: &[usize]| (places[w[1]].0 - places[w[0]].0, places[w[1]].1 - places[w[0]].1);
+    path.windows(2).map(step).collect()
+}
+
+/// Whether every vector rises along a direction.
+pub fn rises(vectors: &[(i128, i128)], (d, e): (i128, i128)) -> bool {
+    vectors.iter().all(|&(across, up)| d * across + e * up > 0)
+}
+
+/// Whether some direction makes all vectors rise. If one does, then one of these does: a vector itself, where all point
+/// the same way; or one vector turned left plus another turned right, for the two outermost vectors.
+pub fn has_direction(vectors: &[(i128, i128)]) -> bool {
+    let turned = |a: &(i128, i128), b: &(i128, i128)| (b.1 - a.1, a.0 - b.0);
+    vectors.is_empty()
+        || vectors.iter().any(|&a| rises(vectors, a))
+        || vectors.iter().any(|a| vectors.iter().any(|b| rises(vectors, turned(a, b))))
+}
+
+/// The reader: its reply; `parent` and `rank` are filled where the file's table is accepted.
+pub fn read_tree(bytes: &[u8], parent: &mut Vec<u32>, rank: &mut Vec<u32>, work: usize) -> Reply {
+    if bytes.len() < 4 {
+        return refused((16, 0));
+    }
+    let numbers: Vec<u32> =
+        bytes.chunks_exact(4).map(|b| u32::from_le_bytes(b.try_into().unwrap())).collect();
+    let n = numbers[0] as usize;
+    if n == 0 {
+        return refused((1, 0));
+    }
+    if n > 65_536 {
+        return refused((2, 0));
+    }
+    if bytes.len() != 4 + 8 * n {
+        return refused((17, 0));
+    }
+    if parent.len() != n || rank.len() != n || work != 4 * n {
+        return refused((3, 0));
+    }
+    let (parents, ranks) = numbers[1..].split_at(n);
+    if let Err(r) = accept_lists(parents, ranks) {
+        return refused(r);
+    }
+    *parent = parents.to_vec();
+    *rank = ranks.to_vec();
+    [1, n as i64, 0]
+}
+
+/// The writer: its reply; `bytes` are filled where the table is accepted and they are as many as its file has.
+pub fn write_tree(parent: &[u32], rank: &[u32], bytes: &mut Vec<u8>, work: usize) -> Reply {
+    if let Err(r) = accept(parent, rank, &[], work, 65_536, 2) {
+        return refused(r);
+    }
+    let n = parent.len();
+    if bytes.len() != 4 + 8 * n {
+        return refused((17, 0));
+    }
+    let numbers = [&[n as u32][..], parent, rank].concat();
+    *bytes = numbers.iter().flat_map(|w| w.to_le_bytes()).collect();
+    [1, bytes.len() as i64, 0]
+}
+
+#[cfg(test)]
+mod tests {
+    use super::*;
+
+    #[test]
+    fn three_balanced_levels() {
+        let up_over_across: Vec<_> = balanced_slopes(8).iter().map(|s| (s.1, s.0)).collect();
+        assert_eq!(up_over_across, [(1, 3), (1, 2), (2, 3), (1, 1), (3, 2), (2, 1), (3, 1)]);
+    }
+
+    #[test]
+    fn post_numbers_of_the_five_lots() {
+        let tree = accept_lists(&[0, 0, 0, 1, 1], &[0, 0, 1, 0, 1]).unwrap();
+        assert_eq!(tree.post_order(), [3, 4, 1, 2, 0]);
+    }
+
+    #[test]
+    fn opposite_vectors_have_no_direction() {
+        assert!(!has_direction(&[(1, 0), (-1, 0)]));
+        assert!(!has_direction(&[(1, 0), (-1, 1), (-1, -1)]));
+        assert!(has_direction(&[(1, 0), (-5, 1), (2, 3)]));
+        assert!(!has_direction(&[(0, 0)]));
+    }
+}

@@ -1,0 +1,409 @@
+//! The proved library beside the plain Rust version: random calls of every kind, every reply and every list compared.
+//!
+//! LINEAGE_SEED sets the seed, which each test prints; LINEAGE_CALLS the number of calls of each kind (200,000).
+
+use lineage::raw;
+use reference::random::Random;
+use reference::{spares_work, Reply, Sheet};
+
+fn calls() -> usize {
+    std::env::var("LINEAGE_CALLS").map_or(200_000, |s| s.parse().expect("LINEAGE_CALLS"))
+}
+
+/// A work list, mostly of the right length.
+fn work(random: &mut Random, n: usize) -> Vec<u32> {
+    let length = if random.once_in(20) { random.below(5 * n + 2) } else { 4 * n };
+    let seed = random.next() as u32;
+    (0..length as u32).map(|i| i.wrapping_mul(2_654_435_761) ^ seed).collect()
+}
+
+/// A list with another length, now and then.
+fn lend(random: &mut Random, list: &mut Vec<u32>) {
+    if random.once_in(40) {
+        random.cut(list);
+    }
+}
+
+fn lend_sheet(random: &mut Random, s: &mut Sheet) {
+    lend(random, &mut s.times);
+    lend(random, &mut s.x);
+    lend(random, &mut s.y);
+}
+
+fn lists(s: &mut Sheet) -> raw::Lists<'_> {
+    raw::Lists { times: &mut s.times, x: &mut s.x, y: &mut s.y }
+}
+
+/// A reply list: three long but for a few calls.
+fn reply_list(random: &mut Random) -> Vec<i64> {
+    let length = if random.once_in(100) { random.below(6) } else { 3 };
+    (0..length).map(|_| random.next() as i64).collect()
+}
+
+/// Compares the reply and the work list, or sees that nothing was done where the reply is not three long.
+fn same(
+    said: &str,
+    called: bool,
+    before: &[i64],
+    reply: &[i64],
+    right: Reply,
+    work_before: &[u32],
+    work: &[u32],
+    keeps: &dyn Fn(i64) -> bool,
+) {
+    if before.len() != 3 {
+        assert!(!called && before == reply && work_before == work, "{said}: a reply of another length");
+        return;
+    }
+    assert!(called, "{said}: refused a reply of three");
+    assert_eq!(reply, right, "{said}");
+    if right[0] == 0 && keeps(right[1]) {
+        assert_eq!(work_before, work, "{said}: the work list changed");
+    }
+}
+
+/// How often each answer was seen, printed with the test.
+#[derive(Default)]
+struct Tally(std::collections::BTreeMap<(i64, i64), usize>);
+
+impl Tally {
+    fn note(&mut self, reply: Reply) {
+        let key = if reply[0] == 0 { (0, reply[1]) } else { (reply[0], 0) };
+        *self.0.entry(key).or_default() += 1;
+    }
+
+    fn print(&self, test: &str) {
+        let shown = |(&(case, number), count): (&(i64, i64), &usize)| match case {
+            0 => format!("refused {number}: {count}"),
+            _ => format!("answer {case}: {count}"),
+        };
+        println!("{test}: {}", self.0.iter().map(shown).collect::<Vec<_>>().join(", "));
+    }
+
+    fn has_all(&self, refusals: &[i64]) {
+        for &number in refusals {
+            assert!(self.0.contains_key(&(0, number)) || calls() < 10_000, "never refused with {number}");
+        }
+    }
+}
+
+#[test]
+fn layout() {
+    let mut random = Random::from_environment("layout");
+    let mut tally = Tally::default();
+    for i in 0..calls() {
+        let (parent, mut rank) = random.any_table(200);
+        let n = parent.len();
+        let balanced = random.once_in(2);
+        let mut mine = Sheet { times: random.list(n), x: random.list(n), y: random.list(n) };
+        lend_sheet(&mut random, &mut mine);
+        lend(&mut random, &mut rank);
+        let (mut theirs, before) = (mine.clone(), work(&mut random, n));
+        let (mut after, replied) = (before.clone(), reply_list(&mut random));
+        let mut reply = replied.clone();
+        let called =
+            raw::layout(balanced, &parent, &rank, lists(&mut theirs), &mut after, &mut reply);
+        let right = if replied.len() == 3 {
+            reference::layout(balanced, &parent, &rank, &mut mine, before.len())
+        } else {
+            [0; 3]
+        };
+        let said = format!("call {i}: layout({balanced}, {parent:?}, {rank:?})");
+        same(&said, called, &replied, &reply, right, &before, &after, &spares_work);
+        assert_eq!(mine, theirs, "{said}");
+        tally.note(right);
+    }
+    tally.print("layout");
+    tally.has_all(&[1, 3, 4, 5, 6, 7]);
+}
+
+/// A lengthen or a shorten on both, compared.
+#[allow(clippy::too_many_arguments)]
+fn stretch(
+    random: &mut Random,
+    longer: bool,
+    balanced: bool,
+    parent: &[u32],
+    rank: &[u32],
+    s: &mut Sheet,
+    lot: u32,
+    count: u32,
+) -> Reply {
+    let before = work(random, parent.len());
+    let (mut theirs, mut after, replied) = (s.clone(), before.clone(), reply_list(random));
+    let mut reply = replied.clone();
+    let (mine, call): (_, fn(_, &_, &_, raw::Lists, &mut _, _, _, &mut _) -> _) = if longer {
+        (reference::lengthen as fn(_, &_, &_, &mut _, _, _, _) -> _, raw::lengthen)
+    } else {
+        (reference::shorten as fn(_, &_, &_, &mut _, _, _, _) -> _, raw::shorten)
+    };
+    let said = format!("longer {longer}, balanced {balanced}, {parent:?}, {rank:?}, {s:?}, {lot}, {count}");
+    let called =
+        call(balanced, parent, rank, lists(&mut theirs), &mut after[..], lot, count, &mut reply[..]);
+    let right = if replied.len() == 3 {
+        mine(balanced, parent, rank, s, before.len(), lot, count)
+    } else {
+        [0; 3]
+    };
+    same(&said, called, &replied, &reply, right, &before, &after, &spares_work);
+    assert_eq!(*s, theirs, "{said}");
+    right
+}
+
+fn lot_of(random: &mut Random, n: usize) -> u32 {
+    if random.once_in(15) {
+        random.number()
+    } else {
+        random.below(n) as u32
+    }
+}
+
+fn slope_of(balanced: bool, parent: &[u32], rank: &[u32], lot: u32) -> (i128, i128) {
+    if parent.is_empty() || rank.len() != parent.len() {
+        return (1, 1);
+    }
+    let tree = reference::accept_lists(parent, rank).ok();
+    tree.and_then(|t| t.slopes(balanced).get(lot as usize).copied()).unwrap_or((1, 1))
+}
+
+fn stretches(test: &str, longer: bool, last: i64) {
+    let mut random = Random::from_environment(test);
+    let mut tally = Tally::default();
+    for _ in 0..calls() {
+        let (parent, mut rank) = random.any_table(60);
+        let balanced = random.once_in(2);
+        let mut s = random.sheet(balanced, &parent, &rank);
+        lend_sheet(&mut random, &mut s);
+        lend(&mut random, &mut rank);
+        let lot = lot_of(&mut random, parent.len());
+        let slope = slope_of(balanced, &parent, &rank, lot);
+        let mut count = random.count(&s, slope);
+        if !longer && random.once_in(2) {
+            let times = s.times.get(lot as usize).copied().unwrap_or(1);
+            count = times.wrapping_add(random.below(3) as u32).wrapping_sub(2);
+        }
+        tally.note(stretch(&mut random, longer, balanced, &parent, &rank, &mut s, lot, count));
+    }
+    tally.print(test);
+    tally.has_all(&[1, 3, 4, 5, 6, 7, 8, 9, 10, last]);
+}
+
+#[test]
+fn lengthen() {
+    stretches("lengthen", true, 11);
+}
+
+#[test]
+fn shorten() {
+    stretches("shorten", false, 12);
+}
+
+/// Lists of calls on one sheet, from the fresh one, with the sums of document 01's "Lists of calls" kept beside.
+#[test]
+fn lists_of_calls() {
+    let mut random = Random::from_environment("lists_of_calls");
+    let mut tally = Tally::default();
+    let mut made = 0;
+    while made < calls() {
+        let n = random.lots(30);
+        let (parent, rank) = random.table(n);
+        let balanced = random.once_in(2);
+        let mut s = Sheet { times: vec![0; n], x: vec![0; n], y: vec![0; n] };
+        reference::layout(balanced, &parent, &rank, &mut s, 4 * n);
+        let tree = reference::accept_lists(&parent, &rank).unwrap();
+        let slopes = tree.slopes(balanced);
+        let mut added = vec![1i128; n];
+        for _ in 0..random.below(40) {
+            let (lot, longer) = (lot_of(&mut random, n), random.below(5) < 3);
+            let slope = slopes.get(lot as usize).copied().unwrap_or((1, 1));
+            let count = random.count(&s, slope);
+            let right = stretch(&mut random, longer, balanced, &parent, &rank, &mut s, lot, count);
+            if right[0] == 1 {
+                added[lot as usize] += if longer { count as i128 } else { -(count as i128) };
+            }
+            tally.note(right);
+            made += 1;
+        }
+        for v in 0..n {
+            let way = tree.way_up(v);
+            let sum = |part: fn(&(i128, i128)) -> i128| {
+                way.iter().map(|&z| part(&slopes[z]) * added[z]).sum::<i128>()
+            };
+            assert_eq!((s.x[v] as i128, s.y[v] as i128), (sum(|s| s.0), sum(|s| s.1)));
+        }
+    }
+    tally.print("lists_of_calls");
+}
+
+#[test]
+fn direction() {
+    let mut random = Random::from_environment("direction");
+    let mut tally = Tally::default();
+    for i in 0..calls() {
+        let (parent, mut rank) = random.any_table(100);
+        lend(&mut random, &mut rank);
+        let n = parent.len();
+        let balanced = random.once_in(2);
+        let (from, to) = (lot_of(&mut random, n), lot_of(&mut random, n));
+        let (before, replied) = (work(&mut random, n), reply_list(&mut random));
+        let (mut after, mut reply) = (before.clone(), replied.clone());
+        let called =
+            raw::direction(balanced, &parent, &rank, &mut after, from, to, &mut reply);
+        let right = reference::direction(balanced, &parent, &rank, before.len(), from, to);
+        let said = format!("call {i}: direction({balanced}, {parent:?}, {rank:?}, {from}, {to})");
+        same(&said, called, &replied, &reply, right, &before, &after, &spares_work);
+        tally.note(right);
+    }
+    tally.print("direction");
+    tally.has_all(&[1, 3, 4, 5, 6, 7, 9, 13]);
+}
+
+#[test]
+fn check() {
+    let mut random = Random::from_environment("check");
+    let mut tally = Tally::default();
+    for i in 0..calls() {
+        let (parent, mut rank) = random.any_table(24);
+        let n = parent.len();
+        let (mut x, mut y) = (random.coordinate(n), random.coordinate(n));
+        if random.once_in(3) && rank.len() == n {
+            let balanced = random.once_in(2);
+            let sheet = random.sheet(balanced, &parent, &rank);
+            (x, y) = (sheet.x, sheet.y);
+        }
+        lend(&mut random, &mut rank);
+        lend(&mut random, &mut x);
+        lend(&mut random, &mut y);
+        let (before, replied) = (work(&mut random, n), reply_list(&mut random));
+        let (mut after, mut reply) = (before.clone(), replied.clone());
+        let called = raw::check(&parent, &rank, &x, &y, &mut after, &mut reply);
+        let right = reference::check(&parent, &rank, &x, &y, before.len());
+        let said = format!("call {i}: check({parent:?}, {rank:?}, {x:?}, {y:?})");
+        same(&said, called, &replied, &reply, right, &before, &after, &spares_work);
+        tally.note(right);
+    }
+    tally.print("check");
+    tally.has_all(&[1, 3, 4, 5, 6, 7, 15]);
+}
+
+#[test]
+fn read_tree() {
+    let mut random = Random::from_environment("read_tree");
+    let mut tally = Tally::default();
+    for i in 0..calls() {
+        let (parent, rank) = random.any_table(100);
+        let n = parent.len();
+        let mut stated = n as u32;
+        if random.once_in(20) {
+            stated = random.number();
+        }
+        let numbers = [&[stated][..], &parent, &rank].concat();
+        let mut bytes: Vec<u8> = numbers.iter().flat_map(|w| w.to_le_bytes()).collect();
+        match random.below(20) {
+            0 => bytes.push(random.next() as u8),
+            1 => bytes.truncate(random.below(bytes.len())),
+            2 => bytes.truncate(random.below(5)),
+            3 => {
+                let at = random.below(bytes.len());
+                bytes[at] = random.next() as u8;
+            }
+            _ => {}
+        }
+        let (mut mine_p, mut mine_r) = (random.list(n), random.list(n));
+        lend(&mut random, &mut mine_p);
+        lend(&mut random, &mut mine_r);
+        let (mut p, mut r) = (mine_p.clone(), mine_r.clone());
+        let (before, replied) = (work(&mut random, n), reply_list(&mut random));
+        let (mut after, mut reply) = (before.clone(), replied.clone());
+        let called = raw::read_tree(&bytes, &mut p, &mut r, &mut after, &mut reply);
+        let right = if replied.len() == 3 {
+            reference::read_tree(&bytes, &mut mine_p, &mut mine_r, before.len())
+        } else {
+            [0; 3]
+        };
+        let said = format!("call {i}: read_tree({bytes:?})");
+        same(&said, called, &replied, &reply, right, &before, &after, &spares_work);
+        assert_eq!((mine_p, mine_r), (p, r), "{said}");
+        tally.note(right);
+    }
+    tally.print("read_tree");
+    tally.has_all(&[1, 2, 3, 4, 5, 6, 7, 16, 17]);
+}
+
+#[test]
+fn write_tree() {
+    let mut random = Random::from_environment("write_tree");
+    let mut tally = Tally::default();
+    for i in 0..calls() {
+        let (parent, mut rank) = random.any_table(100);
+        lend(&mut random, &mut rank);
+        let n = parent.len();
+        let length = if random.once_in(20) { random.below(8 * n + 20) } else { 4 + 8 * n };
+        let mut mine: Vec<u8> = (0..length).map(|_| random.next() as u8).collect();
+        let mut theirs = mine.clone();
+        let (before, replied) = (work(&mut random, n), reply_list(&mut random));
+        let (mut after, mut reply) = (before.clone(), replied.clone());
+        let called = raw::write_tree(&parent, &rank, &mut theirs, &mut after, &mut reply);
+        let right = if replied.len() == 3 {
+            reference::write_tree(&parent, &rank, &mut mine, before.len())
+        } else {
+            [0; 3]
+        };
+        let said = format!("call {i}: write_tree({parent:?}, {rank:?})");
+        same(&said, called, &replied, &reply, right, &before, &after, &|k| k <= 3);
+        assert_eq!(mine, theirs, "{said}");
+        tally.note(right);
+    }
+    tally.print("write_tree");
+    tally.has_all(&[1, 3, 4, 5, 6, 7, 17]);
+}
+
+/// 65,536 and 65,537 lots, and 4,096 and 4,097 for the check, of each shape. The plain version walks by recursion, so it has
+/// a stack of its own.
+#[test]
+fn counts_at_the_limits() {
+    let large = std::thread::Builder::new().stack_size(1 << 30).spawn(|| {
+        for (shape, n) in [("chain", 65_536usize), ("star", 65_536), ("binary", 65_536), ("chain", 65_537)] {
+            let parent: Vec<u32> = (0..n)
+                .map(|v: usize| match shape {
+                    "chain" => v.saturating_sub(1) as u32,
+                    "star" => 0,
+                    _ => (v.saturating_sub(1) / 2) as u32,
+                })
+                .collect();
+            let rank: Vec<u32> = (0..n)
+                .map(|v| match shape {
+                    "chain" => 0,
+                    "star" => v.saturating_sub(1) as u32,
+                    _ => (v.saturating_sub(1) % 2) as u32,
+                })
+                .collect();
+            for balanced in [false, true] {
+                let mut mine = Sheet { times: vec![9; n], x: vec![9; n], y: vec![9; n] };
+                let mut theirs = mine.clone();
+                let (mut w, mut reply) = (vec![3; 4 * n], [0; 3]);
+                raw::layout(balanced, &parent, &rank, lists(&mut theirs), &mut w, &mut reply);
+                let right = reference::layout(balanced, &parent, &rank, &mut mine, 4 * n);
+                assert_eq!(reply, right, "{shape} {n} {balanced}");
+                assert!(mine == theirs, "{shape} {n} {balanced}");
+                assert_eq!(right[0], (n <= 65_536) as i64);
+                let far = (n / 2) as u32;
+                raw::direction(balanced, &parent, &rank, &mut w, 1, far, &mut reply);
+                if shape != "chain" {
+                    let right = reference::direction(balanced, &parent, &rank, 4 * n, 1, far);
+                    assert_eq!(reply, right, "{shape} {n} {balanced}");
+                }
+            }
+        }
+    });
+    large.unwrap().join().unwrap();
+    for (n, right) in [(4096usize, [1, 0, 0]), (4097, [0, 14, 0])] {
+        let parent = vec![0; n];
+        let rank: Vec<u32> = (0..n).map(|v| v.saturating_sub(1) as u32).collect();
+        let (x, y): (Vec<u32>, Vec<u32>) = (0..n as u32).map(|v| (v, v * v)).unzip();
+        let (mut w, mut reply) = (vec![5; 4 * n], [0; 3]);
+        raw::check(&parent, &rank, &x, &y, &mut w, &mut reply);
+        assert_eq!(reply, right);
+        assert_eq!(w == vec![5; 4 * n], n == 4097);
+    }
+}
