@@ -50,8 +50,11 @@ pub record Fitting (L : Limits) : Type 0 where
 ------------------------------------------------------------------------
 -- One call
 
-counted : Bool → ℕ → ℕ
-counted b k = cond b k 0
+counts-here : (v z k : ℕ) → v ≡ z → cond (eqb v z) k 0 ≡ k
+counts-here v z k e = rw (eq-eqb v z e) refl
+
+counts-nowhere : (v z k : ℕ) → (v ≡ z → ⊥) → cond (eqb v z) k 0 ≡ 0
+counts-nowhere v z k ne = rw (ne-eqb v z ne) refl
 
 module _ (L : Limits) (P R : List ℕ) (rule : Rule) where
   -- what a call counts for z: its count if it is accepted
@@ -97,13 +100,13 @@ module _ (L : Limits) (P R : List ℕ) (rule : Rule) where
               ap (λ (y : ℕ). getD (s .times) y 0) e,
               m .stretch .here,
               accepted-share takes s (Lengthen v k work) z (m .answer),
-              accepted-share adds s (Lengthen v k work) z (m .answer) ∙ rw (eq-eqb v z e) refl,
+              accepted-share adds s (Lengthen v k work) z (m .answer) ∙ counts-here v z k e,
             ))
             (λ ne. omega (
               arith,
               m .stretch .other z l (λ e. ne (sym e)),
               accepted-share takes s (Lengthen v k work) z (m .answer),
-              accepted-share adds s (Lengthen v k work) z (m .answer) ∙ rw (ne-eqb v z ne) refl,
+              accepted-share adds s (Lengthen v k work) z (m .answer) ∙ counts-nowhere v z k ne,
             ));
       })
       (lengthen-does L P R rule s work v k)
@@ -118,13 +121,13 @@ module _ (L : Limits) (P R : List ℕ) (rule : Rule) where
               ap (λ (y : ℕ). getD (s .times) y 0) e,
               m .stretch .here,
               accepted-share adds s (Shorten v k work) z (m .answer),
-              accepted-share takes s (Shorten v k work) z (m .answer) ∙ rw (eq-eqb v z e) refl,
+              accepted-share takes s (Shorten v k work) z (m .answer) ∙ counts-here v z k e,
             ))
             (λ ne. omega (
               arith,
               m .stretch .other z l (λ e. ne (sym e)),
               accepted-share adds s (Shorten v k work) z (m .answer),
-              accepted-share takes s (Shorten v k work) z (m .answer) ∙ rw (ne-eqb v z ne) refl,
+              accepted-share takes s (Shorten v k work) z (m .answer) ∙ counts-nowhere v z k ne,
             ));
       })
       (shorten-does L P R rule s work v k)
@@ -164,8 +167,8 @@ accepted-within L M P R long more work e few lists =
     }))
     ∙ both .1
 
-module _ {L : Limits} (fit : Fitting L) {P R : List ℕ} (rule : Rule) {long : Bool} {work : ℕ}
-    (fine : tableFault L P R long work ≡ none) (tree : Tree P R) {s : Drawing} (calls : List Call) (r : Ran L P R rule s calls)
+module _ (L : Limits) (fit : Fitting L) (P R : List ℕ) (rule : Rule) (long : Bool) (work : ℕ)
+    (fine : tableFault L P R long work ≡ none) (tree : Tree P R) (s : Drawing) (calls : List Call) (r : Ran L P R rule s calls)
     (once : (v : ℕ) → v < length P → getD (s .times) v 0 ≡ 1) where
   t : Drawing
   t = run L P R rule s calls
@@ -209,12 +212,18 @@ module _ {L : Limits} (fit : Fitting L) {P R : List ℕ} (rule : Rule) {long : B
   unfolding checkFault beyond allLong t
   unrefused h =
       orElse-second _ _ (accepted-within L checked P R long _ work fine h lists)
-      ∙ refuseLeast-no (checked .beyond) (length P) (beyond (checked .place) (t .x) (t .y)) (length P) (least-is _ (length P) (length P)
-      (omega arith) (λ v l. neither-is (le-ltb (checked .place) _ (omega (arith, r .drawn .x .within v l, fit .near)))
-      (le-ltb (checked .place) _ (omega (arith, r .drawn .y .within v l, fit .near)))) (λ l. absurd (omega arith))) (omega arith)
+      ∙ refuseLeast-no (checked .beyond) (length P) (beyond (checked .place) (t .x) (t .y)) (length P)
+      (least-is (beyond (checked .place) (t .x) (t .y)) (length P) (length P) (omega arith) near (λ l. absurd (omega arith)))
+      (omega arith)
     where
       lists : allLong (length P) (t .x ∷ t .y ∷ []) ≡ true
       lists = rw (eq-eqb _ _ (r .drawn .x .long), eq-eqb _ _ (r .drawn .y .long)) refl
+
+      near : (v : ℕ) → v < length P → beyond (checked .place) (t .x) (t .y) v ≡ false
+      near v l =
+          neither-is
+          (le-ltb (checked .place) (getD (t .x) v 0) (omega (arith, r .drawn .x .within v l, fit .near)))
+          (le-ltb (checked .place) (getD (t .y) v 0) (omega (arith, r .drawn .y .within v l, fit .near)))
 
   says : length P ≤ checked .nodes → (a : Verdict) → Says checked P R (t .x) (t .y) (4 * length P) a → a ≡ Monotone
   unfolding Says
@@ -247,7 +256,8 @@ pub claim : (L : Limits) → Fitting L → Claim L
 unfolding Claim
 claim L fit P R rule old work w h s e calls =
     let l = layout-drawn L (fit .roomy) P R rule old work w h s e in
-    assured fit rule (layout-fine L P R rule old work w h s e) (l .0) calls (ran L P R rule s calls (l .1))
+    assured L fit P R rule (allLong (length P) (lists old)) work (layout-fine L P R rule old work w h s e) (l .0) s calls
+    (ran L P R rule s calls (l .1))
     (λ v b. ap (λ (d : Drawing). getD (d .times) v 0) (sym (l .2)) ∙ fresh-once (l .0) rule v b)
 
 pub large-fits : Fitting large
