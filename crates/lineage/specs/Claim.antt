@@ -76,7 +76,8 @@ module _ (L : Limits) (P R : List ℕ) (rule : Rule) where
 abbrev pub lengthOf : Limits → List ℕ → List ℕ → Rule → Drawing → List Call → ℕ → ℕ
 lengthOf L P R rule s calls z = 1 + added L P R rule s calls z - taken L P R rule s calls z
 
-pub record Assured (L : Limits) (P R : List ℕ) (rule : Rule) (s : Drawing) (calls : List Call) (t : Drawing) : Type 0 where
+pub record Assured (L : Limits) (P R : List ℕ) (rule : Rule) (s : Drawing) (calls : List Call) (t : Drawing) : Type
+    0 where
   -- for any two different nodes the direction call gives a direction along which every edge of their path rises
   pub directions : (u v : ℕ) → u < length P → v < length P → u ≢ v
       → (d e : ℤ) × (direction large P R rule (4 * length P) u v ≡ Along d e) × PathRises P (t .x) (t .y) d e u v

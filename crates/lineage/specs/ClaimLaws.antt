@@ -91,7 +91,8 @@ module _ (L : Limits) (P R : List ℕ) (rule : Rule) where
   unfolding make adds takes
   step s (Lengthen v k work) d =
       ⊎-elim (untouched-step s (Lengthen v k work) d)
-      (λ (m : Stretching L P R rule v k s (lengthen L P R rule s work v k .drawing) (lengthen L P R rule s work v k)). record {
+      (λ (m : Stretching L P R rule v k s (lengthen L P R rule s work v k .drawing)
+      (lengthen L P R rule s work v k)). record {
         drawn = m .drawn;
         times = λ z l. by-eq v z
             (λ e. omega (
@@ -112,7 +113,8 @@ module _ (L : Limits) (P R : List ℕ) (rule : Rule) where
       (lengthen-does L P R rule s work v k)
   step s (Shorten v k work) d =
       ⊎-elim (untouched-step s (Shorten v k work) d)
-      (λ (m : Stretching L P R rule v k (shorten L P R rule s work v k .drawing) s (shorten L P R rule s work v k)). record {
+      (λ (m : Stretching L P R rule v k (shorten L P R rule s work v k .drawing) s
+      (shorten L P R rule s work v k)). record {
         drawn = m .drawn;
         times = λ z l. by-eq v z
             (λ e. omega (
@@ -138,7 +140,8 @@ module _ (L : Limits) (P R : List ℕ) (rule : Rule) where
   pub record Ran (s : Drawing) (calls : List Call) : Type 0 where
     pub drawn : Drawn (L .place) P R rule (run L P R rule s calls)
     pub times : (z : ℕ) → z < length P
-        → getD (run L P R rule s calls .times) z 0 + taken L P R rule s calls z ≡ getD (s .times) z 0 + added L P R rule s calls z
+        → getD (run L P R rule s calls .times) z 0 + taken L P R rule s calls z ≡ getD (s .times) z 0 + added L P R
+        rule s calls z
 
   pub ran : (s : Drawing) (calls : List Call) → Drawn (L .place) P R rule s → Ran s calls
   unfolding run total added taken share
@@ -168,7 +171,8 @@ accepted-within L M P R long more work e few lists =
     ∙ both .1
 
 module _ (L : Limits) (fit : Fitting L) (P R : List ℕ) (rule : Rule) (long : Bool) (work : ℕ)
-    (fine : tableFault L P R long work ≡ none) (tree : Tree P R) (s : Drawing) (calls : List Call) (r : Ran L P R rule s calls)
+    (fine : tableFault L P R long work ≡ none) (tree : Tree P R) (s : Drawing) (calls : List Call)
+    (r : Ran L P R rule s calls)
     (once : (v : ℕ) → v < length P → getD (s .times) v 0 ≡ 1) where
   t : Drawing
   t = run L P R rule s calls
@@ -193,7 +197,8 @@ module _ (L : Limits) (fit : Fitting L) (P R : List ℕ) (rule : Rule) (long : B
       ∙ path-cong tree (stepOf P R rule part (t .times)) (λ z. part (edge P R rule z) * lengthOf L P R rule s calls z)
       (λ z a m. ap (λ (k : ℕ). k * part (edge P R rule z)) (long-as z m) ∙ mul-comm _ _) v l
 
-  stands : Rattle.direction.specs.RisingPaths.Drawn P (Rattle.direction.specs.Direction.edgeSlope P R rule) (λ v. getD (t .times) v 0) (t .x) (t .y)
+  stands : Rattle.direction.specs.RisingPaths.Drawn P (Rattle.direction.specs.Direction.edgeSlope P R rule)
+      (λ v. getD (t .times) v 0) (t .x) (t .y)
   unfolding t edge
   stands = record {
     times-from-1 = λ v a l. r .drawn .some v l;
@@ -213,7 +218,8 @@ module _ (L : Limits) (fit : Fitting L) (P R : List ℕ) (rule : Rule) (long : B
   unrefused h =
       orElse-second _ _ (accepted-within L checked P R long _ work fine h lists)
       ∙ refuseLeast-no (checked .beyond) (length P) (beyond (checked .place) (t .x) (t .y)) (length P)
-      (least-is (beyond (checked .place) (t .x) (t .y)) (length P) (length P) (omega arith) near (λ l. absurd (omega arith)))
+      (least-is (beyond (checked .place) (t .x) (t .y)) (length P) (length P) (omega arith) near
+      (λ l. absurd (omega arith)))
       (omega arith)
     where
       lists : allLong (length P) (t .x ∷ t .y ∷ []) ≡ true
@@ -229,9 +235,11 @@ module _ (L : Limits) (fit : Fitting L) (P R : List ℕ) (rule : Rule) (long : B
   unfolding Says
   says h Monotone c = refl
   says h (Turns u v) c =
-      let d = directed u v (omega (arith, c .1 .ordered, c .1 .inside)) (c .1 .inside) (λ e. omega (arith, c .1 .ordered)) in
+      let d = directed u v (omega (arith, c .1 .ordered, c .1 .inside)) (c .1 .inside)
+      (λ e. omega (arith, c .1 .ordered)) in
       absurd (c .1 .turns (record { d = d .0; e = d .1; rises = d .3 }))
-  says h (Rattle.monotone.specs.declared.Verdict.the-variants.Refused k v) c = absurd (some-not-none (sym c ∙ unrefused h))
+  says h (Rattle.monotone.specs.declared.Verdict.the-variants.Refused k v) c =
+      absurd (some-not-none (sym c ∙ unrefused h))
 
   pub assured : Assured L P R rule s calls (run L P R rule s calls)
   unfolding t
@@ -256,7 +264,8 @@ pub claim : (L : Limits) → Fitting L → Claim L
 unfolding Claim
 claim L fit P R rule old work w h s e calls =
     let l = layout-drawn L (fit .roomy) P R rule old work w h s e in
-    assured L fit P R rule (allLong (length P) (lists old)) work (layout-fine L P R rule old work w h s e) (l .0) s calls
+    assured L fit P R rule (allLong (length P) (lists old)) work (layout-fine L P R rule old work w h s e) (l .0) s
+    calls
     (ran L P R rule s calls (l .1))
     (λ v b. ap (λ (d : Drawing). getD (d .times) v 0) (sym (l .2)) ∙ fresh-once (l .0) rule v b)
 

@@ -34,8 +34,12 @@ module _ {P R : List ℕ} (T : Tree P R) {u z at : ℕ} {W X : List ℕ} (some :
     turned = λ y p l s b. by-eq y z
         (λ e. subst⁻¹ (λ (i : ℕ). getD Y (at + i) 0 + getD W (at + i) 0 ≡ 4294967296) e
         (omega (arith, f .here, t .same z inside (λ p s. under-refl T z inside))))
-        (λ ne. omega (arith, f .others y l ne, t .turned y p l s
-        (false-of (λ c. differ (under-on T y z inside c (λ e. ne (sym e))) b))));
+        (λ ne. omega (
+          arith,
+          f .others y l ne,
+          t .turned y p l s
+              (false-of (λ c. differ (under-on T y z inside c (λ e. ne (sym e))) b)),
+        ));
     same = λ y l h. by-eq y z
         (λ e. absurd (differ (subst (λ (i : ℕ). under P i (parent P z) ≡ true) e
         (h (subst⁻¹ (λ (i : ℕ). 0 < i) e some) (subst⁻¹ (λ (i : ℕ). under P i u ≡ true) e above)))
@@ -116,8 +120,11 @@ module _ {P R : List ℕ} (T : Tree P R) {u : ℕ} (l : u < length P) {W : List 
 
         flipped-across : Flipped P z (length P) X Z
         flipped-across = record {
-          here = omega (arith, else₂ (length P + z) (λ e. omega (arith, T .some)),
-              flip-here X (length P + z) (turning-across .0) (turning-across .1) first);
+          here = omega (
+            arith,
+            else₂ (length P + z) (λ e. omega (arith, T .some)),
+            flip-here X (length P + z) (turning-across .0) (turning-across .1) first,
+          );
           others = λ y m ne. else₂ (length P + y) (λ e. omega (arith, t .inside)) ∙ else₁ (length P + y) (λ e. ne (omega arith));
         }
 
