@@ -1,7 +1,7 @@
 -- A lent list of calls, made one after the other: what the claim's run is to running code.
 --
---   callAt K N C work i      == the i-th call: kind 0 lengthens, any other shortens
---   callsTo K N C work m     == the first m calls
+--   callOf kind v c work     == a call: kind 0 lengthens, any other shortens
+--   callsTo K N C work m     == the first m calls of the lists of kinds K, nodes N and counts C
 --   replay L ..              == the drawing after layout and, where it accepts, the calls
 --   Replayed ..              == the contract of `replay`
 use mathlib.Core.Bool.{cond}
@@ -16,13 +16,12 @@ use Rattle.drawing.specs.declared.Framed.{Framed}
 use Rattle.drawing.specs.Drawing.{Drawing, Outcome, layout}
 use Rattle.lineage.specs.Claim.{Call, Lengthen, Shorten, accepted, make, run}
 
-unfoldable pub callAt : List ℕ → List ℕ → List ℕ → ℕ → ℕ → Call
-callAt K N C work i =
-    cond (eqb (getD K i 0) 0) (Lengthen (getD N i 0) (getD C i 0) work) (Shorten (getD N i 0) (getD C i 0) work)
+unfoldable pub callOf : ℕ → ℕ → ℕ → ℕ → Call
+callOf kind v c work = cond (eqb kind 0) (Lengthen v c work) (Shorten v c work)
 
 unfoldable pub callsTo : List ℕ → List ℕ → List ℕ → ℕ → ℕ → List Call
 callsTo K N C work zero = []
-callsTo K N C work (suc m) = callsTo K N C work m ++ (callAt K N C work m ∷ [])
+callsTo K N C work (suc m) = callsTo K N C work m ++ (callOf (getD K m 0) (getD N m 0) (getD C m 0) work ∷ [])
 
 module _ (L : Limits) (P R : List ℕ) (rule : Rule) where
   unfoldable pub after : Outcome → List Call → Drawing
