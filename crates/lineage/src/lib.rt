@@ -1,1 +1,209 @@
-// The calls together.
+// The C interface. Each call writes its answer into a reply of three numbers and returns true; where the reply is not
+// three long it writes nothing at all and returns false. include/lineage.h says what the numbers mean.
+use direction::Heading;
+use drawing::Framed;
+use monotone::Verdict;
+use slopes::Rule;
+use treefile::Loaded;
+use treefile::Saved;
+ghost use mathlib.Core.List.{[], _∷_};
+ghost use mathlib.Core.Path.{_≡_};
+ghost use Prim.Native.Nat.{_^_, _<_};
+ghost use lib.IntN.{pos};
+ghost use lib.ListN.{length};
+ghost use Rattle.table.specs.Table.{large, checked};
+ghost use Rattle.drawing.specs.Drawing.{lent, Laid};
+ghost use Rattle.direction.specs.Direction.{Directed};
+ghost use Rattle.monotone.specs.Monotone.{Says, Untouched};
+ghost use Rattle.treefile.specs.Bytes.{Read, Wrote};
+ghost use Rattle.lineage.specs.Exports.{ruleOf, three, framedReply, headingReply, verdictReply, loadedReply, savedReply, Short, Exported};
+
+// The rule that a bool stands for.
+fn rule_of(balanced: bool) -> Rule
+    ensures { λ r. ⌜ r ≡ ruleOf balanced ⌝ }
+{
+    if balanced {
+        Rule::Balanced
+    } else {
+        Rule::Steep
+    }
+}
+
+// Writes the reply.
+fn put_three(reply: &mut [i64], a: i64, b: i64, c: i64)
+    requires { ⌜ length (now reply) ≡ 3 ⌝ }
+    ensures { λ _. ⌜ now (reply .exit) ≡ three a b c ⌝ }
+{
+    reply[0] = a;
+    reply[1] = b;
+    reply[2] = c;
+}
+
+// Writes a reply of numbers without a sign.
+fn put_numbers(reply: &mut [i64], a: u32, b: u32, c: u32)
+    requires { ⌜ length (now reply) ≡ 3 ⌝ }
+    ensures { λ _. ⌜ now (reply .exit) ≡ three (pos a) (pos b) (pos c) ⌝ }
+{
+    put_three(reply, a as i64, b as i64, c as i64);
+}
+
+// Writes the reply of a direction.
+fn put_along(reply: &mut [i64], d: i32, e: i32)
+    requires { ⌜ length (now reply) ≡ 3 ⌝ }
+    ensures { λ _. ⌜ now (reply .exit) ≡ three (pos 1) d e ⌝ }
+{
+    put_three(reply, 1, d as i64, e as i64);
+}
+
+fn put_framed(reply: &mut [i64], answer: Framed)
+    requires { ⌜ length (now reply) ≡ 3 ⌝ }
+    ensures { λ _. ⌜ now (reply .exit) ≡ framedReply answer ⌝ }
+{
+    match answer {
+        Framed::Frame(width, height) => put_numbers(reply, 1, width, height),
+        Framed::Refused(number, node) => put_numbers(reply, 0, number, node),
+    }
+}
+
+fn put_heading(reply: &mut [i64], answer: Heading)
+    requires { ⌜ length (now reply) ≡ 3 ⌝ }
+    ensures { λ _. ⌜ now (reply .exit) ≡ headingReply answer ⌝ }
+{
+    match answer {
+        Heading::Along(d, e) => put_along(reply, d, e),
+        Heading::Refused(number, node) => put_numbers(reply, 0, number, node),
+    }
+}
+
+fn put_verdict(reply: &mut [i64], answer: Verdict)
+    requires { ⌜ length (now reply) ≡ 3 ⌝ }
+    ensures { λ _. ⌜ now (reply .exit) ≡ verdictReply answer ⌝ }
+{
+    match answer {
+        Verdict::Monotone => put_numbers(reply, 1, 0, 0),
+        Verdict::Turns(u, v) => put_numbers(reply, 2, u, v),
+        Verdict::Refused(number, node) => put_numbers(reply, 0, number, node),
+    }
+}
+
+fn put_loaded(reply: &mut [i64], answer: Loaded)
+    requires { ⌜ length (now reply) ≡ 3 ⌝ }
+    ensures { λ _. ⌜ now (reply .exit) ≡ loadedReply answer ⌝ }
+{
+    match answer {
+        Loaded::Table(n) => put_numbers(reply, 1, n, 0),
+        Loaded::Refused(number, node) => put_numbers(reply, 0, number, node),
+    }
+}
+
+fn put_saved(reply: &mut [i64], answer: Saved)
+    requires { ⌜ (length (now reply) ≡ 3) × Short answer ⌝ }
+    ensures { λ _. ⌜ now (reply .exit) ≡ savedReply answer ⌝ }
+{
+    match answer {
+        Saved::Bytes(bytes) => put_numbers(reply, 1, bytes as u32, 0),
+        Saved::Unsaved(number, node) => put_numbers(reply, 0, number, node),
+    }
+}
+
+// Writes a fresh sheet: {1, width, height}, or {0, number, node} where it is refused.
+#[no_mangle]
+pub extern "C" fn lineage_layout(
+    balanced: bool,
+    parent: &[u32],
+    rank: &[u32],
+    times: &mut [u32],
+    x: &mut [u32],
+    y: &mut [u32],
+    work: &mut [u32],
+    reply: &mut [i64],
+) -> bool
+    ensures { λ b. ⌜ Exported (Laid large (now (parent .entry)) (now (rank .entry)) (ruleOf balanced) (lent (now (times .entry)) (now (x .entry)) (now (y .entry))) (now (work .entry)) (lent (now (times .exit)) (now (x .exit)) (now (y .exit))) (now (work .exit))) framedReply ((lent (now (times .exit)) (now (x .exit)) (now (y .exit)) ≡ lent (now (times .entry)) (now (x .entry)) (now (y .entry))) × (now (work .exit) ≡ now (work .entry))) (now (reply .entry)) (now (reply .exit)) b ⌝ }
+{
+    if reply.len() != 3 {
+        return false;
+    }
+    let answer = drawing::layout(rule_of(balanced), parent, rank, times, x, y, work);
+    put_framed(reply, answer);
+    true
+}
+
+// A direction along which the tree path rises: {1, d, e}, or {0, number, node} where it is refused.
+#[no_mangle]
+pub extern "C" fn lineage_direction(
+    balanced: bool,
+    parent: &[u32],
+    rank: &[u32],
+    work: &mut [u32],
+    from: u32,
+    to: u32,
+    reply: &mut [i64],
+) -> bool
+    ensures { λ b. ⌜ Exported (Directed large (now (parent .entry)) (now (rank .entry)) (ruleOf balanced) (now (work .entry)) (now (work .exit)) from to) headingReply (now (work .exit) ≡ now (work .entry)) (now (reply .entry)) (now (reply .exit)) b ⌝ }
+{
+    if reply.len() != 3 {
+        return false;
+    }
+    let answer = direction::direction(rule_of(balanced), parent, rank, work, from, to);
+    put_heading(reply, answer);
+    true
+}
+
+// Whether a drawing is monotone: {1, 0, 0}, or {2, u, v} for the first pair that turns, or {0, number, node} where it is
+// refused.
+#[no_mangle]
+pub extern "C" fn lineage_check(
+    parent: &[u32],
+    rank: &[u32],
+    x: &[u32],
+    y: &[u32],
+    work: &mut [u32],
+    reply: &mut [i64],
+) -> bool
+    ensures { λ b. ⌜ Exported (λ answer. Says checked (now (parent .entry)) (now (rank .entry)) (now (x .entry)) (now (y .entry)) (length (now (work .entry))) answer × Untouched checked answer (now (work .entry)) (now (work .exit))) verdictReply (now (work .exit) ≡ now (work .entry)) (now (reply .entry)) (now (reply .exit)) b ⌝ }
+{
+    if reply.len() != 3 {
+        return false;
+    }
+    let answer = monotone::check(parent, rank, x, y, work);
+    put_verdict(reply, answer);
+    true
+}
+
+// Reads a tree file: {1, n, 0}, or {0, number, node} where it is refused.
+#[no_mangle]
+pub extern "C" fn lineage_read_tree(
+    bytes: &[u8],
+    parent: &mut [u32],
+    rank: &mut [u32],
+    work: &mut [u32],
+    reply: &mut [i64],
+) -> bool
+    ensures { λ b. ⌜ Exported (Read large (now (bytes .entry)) (now (parent .entry)) (now (rank .entry)) (now (work .entry)) (now (parent .exit)) (now (rank .exit)) (now (work .exit))) loadedReply ((now (parent .exit) ≡ now (parent .entry)) × (now (rank .exit) ≡ now (rank .entry)) × (now (work .exit) ≡ now (work .entry))) (now (reply .entry)) (now (reply .exit)) b ⌝ }
+{
+    if reply.len() != 3 {
+        return false;
+    }
+    let answer = treefile::read_tree(bytes, parent, rank, work);
+    put_loaded(reply, answer);
+    true
+}
+
+// Writes a tree file: {1, bytes, 0}, or {0, number, node} where it is refused.
+#[no_mangle]
+pub extern "C" fn lineage_write_tree(
+    parent: &[u32],
+    rank: &[u32],
+    bytes: &mut [u8],
+    work: &mut [u32],
+    reply: &mut [i64],
+) -> bool
+    ensures { λ b. ⌜ Exported (Wrote large (now (parent .entry)) (now (rank .entry)) (now (bytes .entry)) (now (work .entry)) (now (bytes .exit)) (now (work .exit))) savedReply ((now (bytes .exit) ≡ now (bytes .entry)) × (now (work .exit) ≡ now (work .entry))) (now (reply .entry)) (now (reply .exit)) b ⌝ }
+{
+    if reply.len() != 3 {
+        return false;
+    }
+    let answer = treefile::write_tree(parent, rank, bytes, work);
+    put_saved(reply, answer);
+    true
+}

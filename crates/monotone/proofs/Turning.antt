@@ -34,12 +34,8 @@ module _ {P R : List ℕ} (T : Tree P R) {u z at : ℕ} {W X : List ℕ} (some :
     turned = λ y p l s b. by-eq y z
         (λ e. subst⁻¹ (λ (i : ℕ). getD Y (at + i) 0 + getD W (at + i) 0 ≡ 4294967296) e
         (omega (arith, f .here, t .same z inside (λ p s. under-refl T z inside))))
-        (λ ne. omega (
-          arith,
-          f .others y l ne,
-          t .turned y p l s
-              (false-of (λ c. differ (under-on T y z inside c (λ e. ne (sym e))) b)),
-        ));
+        (λ ne. omega (arith, f .others y l ne, t .turned y p l s
+        (false-of (λ c. differ (under-on T y z inside c (λ e. ne (sym e))) b))));
     same = λ y l h. by-eq y z
         (λ e. absurd (differ (subst (λ (i : ℕ). under P i (parent P z) ≡ true) e
         (h (subst⁻¹ (λ (i : ℕ). 0 < i) e some) (subst⁻¹ (λ (i : ℕ). under P i u ≡ true) e above)))
@@ -158,52 +154,8 @@ turning-end {P} T {u} {z} {W} {X} h t = record { across = part-end (t .across); 
     below : (y : ℕ) → 0 < y → under P y z ≡ false
     below y p = subst⁻¹ (λ (i : ℕ). under P y i ≡ false) (let e : z ≡ 0 = omega arith in e) (root-below T y p)
 
-<<<<<<< HEAD
-        else₂ : (j : ℕ) → (j ≡ 2 * length P + z → ⊥) → getD Z j 0 ≡ getD Y j 0
-        else₂ = flip-else Y (2 * length P + z) (turning-up .0) (turning-up .1) second
-
-        flipped-across : Flipped P z (length P) X Z
-        flipped-across = record {
-          here = omega (
-            arith,
-            else₂ (length P + z) (λ e. omega (arith, T .some)),
-            flip-here X (length P + z) (turning-across .0) (turning-across .1) first,
-          );
-          others = λ y m ne. else₂ (length P + y) (λ e. omega (arith, t .inside)) ∙ else₁ (length P + y) (λ e. ne (omega arith));
-        }
-
-        flipped-up : Flipped P z (2 * length P) X Z
-        flipped-up = record {
-          here = omega (arith, up-kept, flip-here Y (2 * length P + z) (turning-up .0) (turning-up .1) second);
-          others = λ y m ne. else₂ (2 * length P + y) (λ e. ne (omega arith)) ∙ else₁ (2 * length P + y) (λ e. omega (arith, t .inside));
-        }
-
-        pub turning-step : Turning P u (parent P z) W Z
-        turning-step = record {
-          inside = T .inside z (t .inside);
-          above = under-trans T (parent P z) z u l (under-parent T z (t .inside)) (t .above);
-          across = part-step T some (t .inside) (t .above) (t .across) flipped-across;
-          up = part-step T some (t .inside) (t .above) (t .up) flipped-up;
-          only = only-set (2 * length P + z) (4294967296 - getD Y (2 * length P + z) 0)
-              (only-set (length P + z) (4294967296 - getD X (length P + z) 0) (t .only) (omega arith) (omega (arith, t .inside)) first)
-              (omega arith) (omega (arith, t .inside)) second;
-        }
-
-  pub turning-end : {z : ℕ} {X : List ℕ} → z ≤ 0 → Turning P u z W X → Turned P u W X
-  turning-end {z} {X} h t = record { across = part-end (t .across); up = part-end (t .up); only = t .only }
-    where
-      below : (y : ℕ) → 0 < y → under P y z ≡ false
-      below y p = subst⁻¹ (λ (i : ℕ). under P y i ≡ false) (let e : z ≡ 0 = omega arith in e) (root-below T y p)
-
-      part-end : {at : ℕ} → TurningPart P u z at W X → TurnedPart P u at W X
-      part-end p = record {
-        turned = λ y s m a. p .turned y s m a (below y s);
-        same = λ y m f. p .same y m (λ s a. absurd (differ a (f s)));
-      }
-=======
     part-end : {at : ℕ} → TurningPart P u z at W X → TurnedPart P u at W X
     part-end p = record {
       turned = λ y s m a. p .turned y s m a (below y s);
       same = λ y m f. p .same y m (λ s a. absurd (differ a (f s)));
     }
->>>>>>> 56fb58b0a8bbf49562ddea2201572426ce55b04b

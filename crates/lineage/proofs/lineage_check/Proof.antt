@@ -1,0 +1,40 @@
+-- The call's own contract, with its answer written.
+use mathlib.Core.Path.{refl}
+use Rattle.lineage.specs.Exports.{Exported}
+use borrow.Author.Needs.{needs}
+use Rattle.lineage.proofs.lineage_check.Statement.{statement}
+use Rattle.lineage.proofs.lineage_check.Tie as tie
+
+returns : tie.Need-returns
+unfolding Exported
+returns c = (c .if1 .taken, refl, refl)
+
+check-requires : tie.Need-check-requires
+check-requires c κs = search needs
+
+put-verdict-requires : tie.Need-put-verdict-requires
+put-verdict-requires c κs = search needs
+
+same-length : tie.Need-same-length
+same-length c = search needs
+
+same-length-2 : tie.Need-same-length-2
+same-length-2 c = search needs
+
+returns-2 : tie.Need-returns-2
+unfolding Exported
+returns-2 c =
+    let replied = c .before in
+    let called = replied .before .before .before .before in (
+      called .before .before .if1 .left,
+      record {
+        answer = called .check .result;
+        kept = called .check .ensures;
+        written = replied .put-verdict .ensures;
+      },
+    )
+
+pub lineage-check-spec : {M : Type 1} → statement M
+lineage-check-spec =
+    tie.close
+    (tie.spec returns check-requires put-verdict-requires same-length same-length-2 returns-2)

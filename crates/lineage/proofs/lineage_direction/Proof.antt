@@ -1,0 +1,51 @@
+-- The call's own contract, with its answer written.
+use mathlib.Core.Path.{refl}
+use Rattle.lineage.specs.Exports.{Exported}
+use borrow.Author.Needs.{needs}
+use Rattle.lineage.proofs.lineage_direction.Statement.{statement}
+use Rattle.lineage.proofs.lineage_direction.Tie as tie
+
+returns : tie.Need-returns
+unfolding Exported
+returns c = (c .if1 .taken, refl, refl)
+
+rule-of-requires : tie.Need-rule-of-requires
+rule-of-requires c κs = search needs
+
+direction-requires : tie.Need-direction-requires
+direction-requires c κs = search needs
+
+put-heading-requires : tie.Need-put-heading-requires
+put-heading-requires c κs = search needs
+
+same-length : tie.Need-same-length
+same-length c = search needs
+
+same-length-2 : tie.Need-same-length-2
+same-length-2 c = search needs
+
+returns-2 : tie.Need-returns-2
+unfolding Exported
+returns-2 c =
+    let replied = c .before in
+    let called = replied .before .before .before .before in
+    let ruled = called .before .before in (
+      ruled .before .if1 .left,
+      record {
+        answer = called .direction .result;
+        kept = rw (ruled .rule-of .ensures) at (called .direction .ensures);
+        written = replied .put-heading .ensures;
+      },
+    )
+
+pub lineage-direction-spec : {M : Type 1} → statement M
+lineage-direction-spec =
+    tie.close
+    (tie.spec
+    returns
+    rule-of-requires
+    direction-requires
+    put-heading-requires
+    same-length
+    same-length-2
+    returns-2)

@@ -1,0 +1,53 @@
+-- The call's own contract, with its answer written.
+use mathlib.Core.Path.{refl}
+use Rattle.lineage.specs.Exports.{Exported}
+use Rattle.lineage.proofs.Exporting.{written-short}
+use borrow.Author.Needs.{needs}
+use Rattle.lineage.proofs.lineage_write_tree.Statement.{statement}
+use Rattle.lineage.proofs.lineage_write_tree.Tie as tie
+
+returns : tie.Need-returns
+unfolding Exported
+returns c = (c .if1 .taken, refl, (refl, refl))
+
+write-tree-requires : tie.Need-write-tree-requires
+write-tree-requires c κs = search needs
+
+put-saved-requires : tie.Need-put-saved-requires
+put-saved-requires c κs =
+    let called = c .before .before .before .before .before in
+    (called .before .before .before .if1 .left, written-short (called .write-tree .ensures))
+
+same-length : tie.Need-same-length
+same-length c = search needs
+
+same-length-2 : tie.Need-same-length-2
+same-length-2 c = search needs
+
+same-length-3 : tie.Need-same-length-3
+same-length-3 c = search needs
+
+returns-2 : tie.Need-returns-2
+unfolding Exported
+returns-2 c =
+    let replied = c .before in
+    let called = replied .before .before .before .before .before .before in (
+      called .before .before .before .if1 .left,
+      record {
+        answer = called .write-tree .result;
+        kept = called .write-tree .ensures;
+        written = replied .put-saved .ensures;
+      },
+    )
+
+pub lineage-write-tree-spec : {M : Type 1} → statement M
+lineage-write-tree-spec =
+    tie.close
+    (tie.spec
+    returns
+    write-tree-requires
+    put-saved-requires
+    same-length
+    same-length-2
+    same-length-3
+    returns-2)
