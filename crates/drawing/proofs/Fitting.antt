@@ -38,8 +38,7 @@ module _ {P R W : List ℕ} (t : NumberedTree P R W) {v : ℕ} (above : 0 < v) (
   pub edge-number : {j : ℕ} → j ≡ getD W v 0 → (1 ≤ j) × (j < length P) × (length P ≤ 2 ^ 32)
   edge-number e =
       let n = numbering (t .tree) in
-      let is = t .numbers .last v inside in
-      (
+      let is = t .numbers .last v inside in (
         omega (arith, n .from-1 v inside),
         omega (arith, n .parent-later v above inside, n .to-n (parent P v) (t .tree .inside v inside)),
         omega (arith, t .few),

@@ -18,7 +18,7 @@ use Rattle.monotone.specs.declared.Verdict.{Verdict}
 use Rattle.monotone.specs.declared.Verdict.the-variants.{Monotone}
 use Rattle.monotone.specs.Monotone.{HasDirection, Before, AllDirected, FirstTurn}
 use Rattle.monotone.specs.Plane.{Vec, HasHalfPlane, cone-open}
-use Rattle.monotone.specs.Cones.{partAt, edgeAt, Holds, empty, shut, wide}
+use Rattle.monotone.specs.Cones.{partAt, edgeAt, Holds, any, empty, shut, wide}
 use Rattle.monotone.specs.PathEdges.{OnPath, hop, away, has-direction, has-half-plane}
 use Rattle.monotone.specs.Rows.{TurnedPart, Said, Coned, DrawnPart, Drawn}
 
@@ -63,31 +63,31 @@ drawn-kept {P} {x} {y} {W} {X} o d = record {
 
 module _ {P R : List ℕ} (T : Tree P R) {x y : List ℕ} {u : ℕ} (l : u < length P) {W X : List ℕ} (c : Coned P u W X)
     (d : Drawn P x y W) (v : ℕ) (m : v < length P) where
-  edges : (z : ℕ) → 0 < z → z < length P → edgeAt (length P) (c .away) z ≡ away P x y u z
-  edges = edge-away d (c .across) (c .up)
+  edges : (z : ℕ) → 0 < z → z < length P → edgeAt (length P) (c .turned) z ≡ away P x y u z
+  edges = edge-away d (c .away .across) (c .away .up)
 
   pub directed : (getD X v 0 ≡ 2 → ⊥) → HasDirection P x y u v
   directed ne =
-      has-direction T x y (edgeAt (length P) (c .away)) u v l m edges (s .way) (s .path) (opened (s .holds))
+      has-direction T x y (edgeAt (length P) (c .turned)) u v l m edges (s .way) (s .path) (opened (s .holds))
     where
-      s : Said P (edgeAt (length P) (c .away)) u (getD X v 0) v
+      s : Said P (edgeAt (length P) (c .turned)) u (getD X v 0) v
       s = c .said v m
 
-      opened : Holds (length P) (edgeAt (length P) (c .away)) (getD X v 0) (s .way) → HasHalfPlane (s .way)
+      opened : Holds (length P) any (edgeAt (length P) (c .turned)) (getD X v 0) (s .way) → HasHalfPlane (s .way)
       opened (empty e n) = subst⁻¹ HasHalfPlane n (record { direction = record { across = pos 0; up = pos 0 }; ahead = tt })
       opened (shut e f) = absurd (ne e)
-      opened (wide p k) = cone-open k
+      opened (wide p a b k) = cone-open k
 
   pub turns : getD X v 0 ≡ 2 → HasDirection P x y u v → ⊥
-  turns two h = closed (s .holds) (has-half-plane T x y (edgeAt (length P) (c .away)) u v l m edges (s .way) (s .path) h)
+  turns two h = closed (s .holds) (has-half-plane T x y (edgeAt (length P) (c .turned)) u v l m edges (s .way) (s .path) h)
     where
-      s : Said P (edgeAt (length P) (c .away)) u (getD X v 0) v
+      s : Said P (edgeAt (length P) (c .turned)) u (getD X v 0) v
       s = c .said v m
 
-      closed : Holds (length P) (edgeAt (length P) (c .away)) (getD X v 0) (s .way) → HasHalfPlane (s .way) → ⊥
+      closed : Holds (length P) any (edgeAt (length P) (c .turned)) (getD X v 0) (s .way) → HasHalfPlane (s .way) → ⊥
       closed (empty e n) g = omega arith
       closed (shut e f) g = f g
-      closed (wide p k) g = omega (arith, p .low)
+      closed (wide p a b k) g = omega (arith, p .low)
 
 ------------------------------------------------------------------------
 -- The pairs passed

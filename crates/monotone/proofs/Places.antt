@@ -13,7 +13,7 @@ use Rattle.table.specs.Table.{parent}
 use Rattle.monotone.specs.Monotone.{beyond}
 use Rattle.monotone.specs.Cones.{Part, Edges}
 use Rattle.monotone.specs.Rows.{Coordinate, DrawnPart}
-use Rattle.monotone.proofs.Climbing.{store-here, store-else}
+use Rattle.monotone.proofs.Stores.{store-here, store-else}
 
 ------------------------------------------------------------------------
 -- Lengths

@@ -12,11 +12,12 @@ use Rattle.table.specs.Ancestry.{under-root}
 use Rattle.table.specs.Table.{parent, under}
 use Rattle.table.specs.TableLaws.{Tree}
 use Rattle.monotone.specs.Plane.{Vec}
-use Rattle.monotone.specs.Cones.{Part, Edges, edgeAt, Formed, Grown}
+use Rattle.monotone.specs.Cones.{Part, Edges, edgeAt, any, Grown}
 use Rattle.monotone.specs.PathEdges.{path-down}
-use Rattle.monotone.specs.Rows.{WithEdges, TurnedPart, Turned, Said, Told, Row, Reached, Visited, known, grown, Ordered, Coned}
+use Rattle.monotone.specs.Rows.{WithEdges, TurnedPart, Away, Turned, Said, Row, Climbed, Reached, Visited, known, grown, Ordered, Coned}
 use Rattle.monotone.proofs.Growth.{holds-formed}
-use Rattle.monotone.proofs.Climbing.{edges-kept, vectors-kept, store-here, store-else, said-some, told-store}
+use Rattle.monotone.proofs.Stores.{store-here, store-else}
+use Rattle.monotone.proofs.Climbing.{edges-kept, vectors-kept, said-some, told-store}
 
 ------------------------------------------------------------------------
 -- What stays
@@ -33,16 +34,16 @@ ordered-kept {P} {W} {X} same o = record {
   later = o .later;
 }
 
-pub ready-kept : {P W X : List ℕ} → Only 0 (length P) W X → WithEdges P W → WithEdges P X
-ready-kept o r = record { ranks = r .ranks; tree = r .tree; edges = edges-kept o (r .edges) }
+pub edges-stay : {P W X : List ℕ} → Only 0 (length P) W X → WithEdges P W → WithEdges P X
+edges-stay o r = record { ranks = r .ranks; tree = r .tree; edges = edges-kept o (r .edges) }
 
-pub ready-turned : {P : List ℕ} {u : ℕ} {W X : List ℕ} → Turned P u W X → WithEdges P W → WithEdges P X
-ready-turned {P} {u} {W} {X} t r = record {
+pub edges-away : {P : List ℕ} {u : ℕ} {W X : List ℕ} → Away P u W X → length X ≡ length W → WithEdges P W → WithEdges P X
+edges-away {P} {u} {W} {X} t long r = record {
   ranks = r .ranks;
   tree = r .tree;
   edges = record {
     few = r .edges .few;
-    long = t .only .long ∙ r .edges .long;
+    long = long ∙ r .edges .long;
     across = λ z s l. part (length P) (t .across) z s l (r .edges .across z s l);
     up = λ z s l. part (2 * length P) (t .up) z s l (r .edges .up z s l);
   };
@@ -141,7 +142,7 @@ module _ {P R : List ℕ} (T : Tree P R) {u : ℕ} (l : u < length P) {W : List 
         way = edgeAt (length P) W node ∷ parent-said e .way;
         path = path-down T (edgeAt (length P) W) u l node (parent-said e .way) node-in (not-above e) (parent-said e .path);
         holds = subst (λ (f : ℕ → Vec). Grown (length P) f (getD X (parent P node) 0) node r) (vectors-kept (s .only)) g
-            .holds (parent-said e .way) (parent-said e .holds);
+            .holds any refl (parent-said e .way) (parent-said e .holds);
       }
 
       -- what was known stays known
@@ -170,42 +171,43 @@ part-twice {P} {u} at t r z l = by-lt 0 z
     (λ a. r .same z l (λ _. a) ∙ t .same z l (λ _. a)))
     (λ h. r .same z l (λ s. absurd (omega arith)) ∙ t .same z l (λ s. absurd (omega arith)))
 
--- W, cleared to A, turned to B, climbed to C, spread to X, turned back to Y
-module _ {P : List ℕ} {u j : ℕ} {W A B C X Y : List ℕ} (cleared : Only 0 (length P) W A) (turned : Turned P u A B)
-    (climbed : Only 0 (length P) B C) (end : j ≤ 0) (spread : Spreading P u j C X) (back : Turned P u X Y) where
-  across : TurnedPart P u (length P) W C
-  across = part-between (omega arith) cleared (turned .across) climbed
+-- W, cleared to A, climbed to C, spread to X, turned back to Y
+module _ {P : List ℕ} {u j : ℕ} {W A C X Y : List ℕ} (cleared : Only 0 (length P) W A) (climbed : Climbed P u A C)
+    (end : j ≤ 0) (spread : Spreading P u j C X) (back : Turned P u X Y) where
+  away : Away P u W C
+  away = record {
+    across = part-between (omega arith) cleared (climbed .away .across) (only-refl 0 (length P) C);
+    up = part-between (omega arith) cleared (climbed .away .up) (only-refl 0 (length P) C);
+  }
 
-  up : TurnedPart P u (2 * length P) W C
-  up = part-between (omega arith) cleared (turned .up) climbed
-
-  across-back : TurnedPart P u (length P) C Y
-  across-back = part-between (omega arith) (spread .only) (back .across) (only-refl 0 (length P) Y)
-
-  up-back : TurnedPart P u (2 * length P) C Y
-  up-back = part-between (omega arith) (spread .only) (back .up) (only-refl 0 (length P) Y)
+  home : Away P u C Y
+  home = record {
+    across = part-between (omega arith) (spread .only) (back .away .across) (only-refl 0 (length P) Y);
+    up = part-between (omega arith) (spread .only) (back .away .up) (only-refl 0 (length P) Y);
+  }
 
   beyond : (k : ℕ) → length P ≤ k → getD Y k 0 ≡ getD W k 0
   beyond k h =
       by-lt k (2 * length P)
-      (λ l. at (length P) (k - length P) (omega arith) (part-twice (length P) across across-back (k - length P) (omega arith)))
+      (λ l. at (length P) (k - length P) (omega arith)
+      (part-twice (length P) (away .across) (home .across) (k - length P) (omega arith)))
       (λ h₂. by-lt k (3 * length P)
-      (λ l. at (2 * length P) (k - 2 * length P) (omega arith) (part-twice (2 * length P) up up-back (k - 2 * length P) (omega arith)))
-      (λ h₃. back .only .above k h₃ ∙ spread .only .above k h ∙ climbed .above k h ∙ turned .only .above k h₃ ∙ cleared .above k h))
+      (λ l. at (2 * length P) (k - 2 * length P) (omega arith)
+      (part-twice (2 * length P) (away .up) (home .up) (k - 2 * length P) (omega arith)))
+      (λ h₃. back .only .above k h₃ ∙ spread .only .above k h ∙ climbed .only .above k h₃ ∙ cleared .above k h))
     where
       at : (a z : ℕ) → a + z ≡ k → getD Y (a + z) 0 ≡ getD W (a + z) 0 → getD Y k 0 ≡ getD W k 0
       at a z e s = subst (λ (i : ℕ). getD Y i 0 ≡ getD W i 0) e s
 
   pub coned : Coned P u W Y
   coned = record {
-    away = C;
-    across = across;
-    up = up;
+    turned = C;
+    away = away;
     said = λ v l.
         subst⁻¹ (λ (k : ℕ). Said P (edgeAt (length P) C) u k v) (back .only .below v l)
         (spread .row .told .said v l (spread .done v l (omega (arith, spread .order .least v l))));
     only = record {
-      long = back .only .long ∙ spread .only .long ∙ climbed .long ∙ turned .only .long ∙ cleared .long;
+      long = back .only .long ∙ spread .only .long ∙ climbed .only .long ∙ cleared .long;
       below = λ k l. absurd (omega arith);
       above = beyond;
     };

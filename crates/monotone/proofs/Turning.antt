@@ -5,15 +5,15 @@ use mathlib.Core.Path.{_≡_, refl, sym, ap, subst, subst⁻¹, _∙_}
 use Prim.Native.Nat.{ℕ, _+_, _-_, _*_, _≤_, _<_}
 use native.Mathlib.Omega.{arith}
 use lib.ListN.{length, getD, set, length-set}
-use lib.Seq.{getD-set-same, getD-set-other}
-use Rattle.laws.specs.Regions.{Only, only-refl, only-set}
-use Rattle.laws.specs.Tests.{by-eq, differ, false-of}
+use Rattle.laws.specs.Regions.{Only}
+use Rattle.laws.specs.Tests.{by-eq, by-test, differ, false-of}
 use Rattle.table.specs.Ancestry.{under-refl, under-parent, under-trans, under-on, under-steps, climb-root}
 use Rattle.table.specs.Table.{parent, climb, under}
 use Rattle.table.specs.TableLaws.{Tree}
 use Rattle.monotone.specs.Cones.{Part, Edges}
 use Rattle.monotone.specs.PathEdges.{child-below}
-use Rattle.monotone.specs.Rows.{TurnedPart, Turned}
+use Rattle.monotone.specs.Rows.{EdgeTurned, TurnedPart, Away}
+use Rattle.monotone.proofs.Stores.{store-here, store-else}
 
 ------------------------------------------------------------------------
 -- One part of the vectors
@@ -24,9 +24,9 @@ pub record TurningPart (P : List ℕ) (u z at : ℕ) (W X : List ℕ) : Type 0 w
   pub same : (y : ℕ) → y < length P → (0 < y → under P y u ≡ true → under P y z ≡ true) → getD X (at + y) 0 ≡ getD W (at + y) 0
 
 -- the number of z is turned round, and those of the others stay
-pub record Flipped (P : List ℕ) (z at : ℕ) (X Y : List ℕ) : Type 0 where
-  pub here : getD Y (at + z) 0 + getD X (at + z) 0 ≡ 4294967296
-  pub others : (y : ℕ) → y < length P → (y ≡ z → ⊥) → getD Y (at + y) 0 ≡ getD X (at + y) 0
+record Flipped (P : List ℕ) (z at : ℕ) (X Y : List ℕ) : Type 0 where
+  here : getD Y (at + z) 0 + getD X (at + z) 0 ≡ 4294967296
+  others : (y : ℕ) → y < length P → (y ≡ z → ⊥) → getD Y (at + y) 0 ≡ getD X (at + y) 0
 
 module _ {P R : List ℕ} (T : Tree P R) {u z at : ℕ} {W X : List ℕ} (some : 0 < z) (inside : z < length P) (above : under P z u ≡ true) where
   part-step : {Y : List ℕ} → TurningPart P u z at W X → Flipped P z at X Y → TurningPart P u (parent P z) at W Y
@@ -58,94 +58,104 @@ pub record Turning (P : List ℕ) (u z : ℕ) (W X : List ℕ) : Type 0 where
   pub above : under P z u ≡ true
   pub across : TurningPart P u z (length P) W X
   pub up : TurningPart P u z (2 * length P) W X
-  pub only : Only (length P) (3 * length P) W X
 
--- a store of the number turned round
-module _ (X : List ℕ) {Y : List ℕ} (i : ℕ) (here : i < length X) (part : Part (getD X i 0)) (stored : Y ≡ set X i (4294967296 - getD X i 0)) where
-  flip-here : getD Y i 0 + getD X i 0 ≡ 4294967296
-  flip-here =
-      let e : getD Y i 0 ≡ 4294967296 - getD X i 0
-      = ap (λ (l : List ℕ). getD l i 0) stored ∙ getD-set-same X i (4294967296 - getD X i 0) 0 here in
-      omega (arith, part .most)
+-- one store, then the other
+module _ (n z : ℕ) (some : 0 < z) (inside : z < n) {W : List ℕ} (edges : Edges n W) where
+  pub edge-across : (n + z < length W) × Part (getD W (n + z) 0)
+  edge-across = (omega (arith, edges .long), edges .across z some inside)
 
-  flip-else : (j : ℕ) → (j ≡ i → ⊥) → getD Y j 0 ≡ getD X j 0
-  flip-else j ne = ap (λ (l : List ℕ). getD l j 0) stored ∙ getD-set-other X i j (4294967296 - getD X i 0) 0 ne
+  module _ {X : List ℕ} (first : X ≡ set W (n + z) (4294967296 - getD W (n + z) 0)) where
+    up-kept : getD X (2 * n + z) 0 ≡ getD W (2 * n + z) 0
+    up-kept = store-else W (n + z) _ first (2 * n + z) (λ e. omega arith)
 
-module _ {P R : List ℕ} (T : Tree P R) {u : ℕ} (l : u < length P) {W : List ℕ} (edges : Edges (length P) W) where
+    x-long : length X ≡ length W
+    x-long = ap length first ∙ simp length-set
+
+    pub edge-up : (2 * n + z < length X) × Part (getD X (2 * n + z) 0)
+    edge-up = (omega (arith, edges .long, x-long), subst⁻¹ Part up-kept (edges .up z some inside))
+
+    pub edge-turned : {Y : List ℕ} → Y ≡ set X (2 * n + z) (4294967296 - getD X (2 * n + z) 0) → EdgeTurned n z W Y
+    edge-turned {Y} second = record {
+      across = omega (
+        arith,
+        store-else X (2 * n + z) _ second (n + z) (λ e. omega arith),
+        store-here W (n + z) _ (edge-across .0) first,
+        edges .across z some inside .most,
+      );
+      up = omega (arith, up-kept, store-here X (2 * n + z) _ (edge-up .0) second, edges .up z some inside .most);
+      others = λ k a b. store-else X (2 * n + z) _ second k b ∙ store-else W (n + z) _ first k a;
+      long = (ap length second ∙ simp length-set) ∙ x-long;
+    }
+
+module _ {P R : List ℕ} (T : Tree P R) {u : ℕ} (l : u < length P) {W : List ℕ} where
   pub turning-start : Turning P u u W W
-  turning-start = record {
-    inside = l;
-    above = under-refl T u l;
-    across = none-yet (length P);
-    up = none-yet (2 * length P);
-    only = only-refl (length P) (3 * length P) W;
-  }
+  turning-start = record { inside = l; above = under-refl T u l; across = none-yet (length P); up = none-yet (2 * length P) }
     where
       none-yet : (at : ℕ) → TurningPart P u u at W W
       none-yet at = record { turned = λ y p l s b. absurd (differ s b); same = λ y l h. refl }
 
   module _ {z : ℕ} {X : List ℕ} (some : 0 < z) (t : Turning P u z W X) where
-    -- the number of z at either part is still that of W
-    unturned : {at : ℕ} → TurningPart P u z at W X → getD X (at + z) 0 ≡ getD W (at + z) 0
-    unturned p = p .same z (t .inside) (λ _ _. under-refl T z (t .inside))
+    pub turning-step : {Y : List ℕ} → EdgeTurned (length P) z X Y → Turning P u (parent P z) W Y
+    turning-step e = record {
+      inside = T .inside z (t .inside);
+      above = under-trans T (parent P z) z u l (under-parent T z (t .inside)) (t .above);
+      across = part-step T some (t .inside) (t .above) (t .across) (record {
+        here = e .across;
+        others = λ y m ne. e .others (length P + y) (λ q. ne (omega arith)) (λ q. omega (arith, t .inside));
+      });
+      up = part-step T some (t .inside) (t .above) (t .up) (record {
+        here = e .up;
+        others = λ y m ne. e .others (2 * length P + y) (λ q. omega (arith, t .inside)) (λ q. ne (omega arith));
+      });
+    }
 
-    pub turning-across : (length P + z < length X) × Part (getD X (length P + z) 0)
-    turning-across = (
-      omega (arith, t .inside, t .only .long, edges .long),
-      subst⁻¹ Part (unturned (t .across)) (edges .across z some (t .inside)),
-    )
+-- the edges stay small
+pub turning-edges : {P : List ℕ} {u z : ℕ} {W X : List ℕ} → Turning P u z W X → length X ≡ length W → Edges (length P) W → Edges (length P) X
+turning-edges {P} {u} {z} {W} {X} t long e = record {
+  few = e .few;
+  long = long ∙ e .long;
+  across = λ y s l. part (length P) (t .across) y s l (e .across y s l);
+  up = λ y s l. part (2 * length P) (t .up) y s l (e .up y s l);
+}
+  where
+    part : (at : ℕ) → TurningPart P u z at W X → (y : ℕ) → 0 < y → y < length P → Part (getD W (at + y) 0) → Part (getD X (at + y) 0)
+    part at p y s l q = by-test (under P y u)
+        (λ a. by-test (under P y z)
+        (λ b. subst⁻¹ Part (p .same y l (λ _ _. b)) q)
+        (λ b. record { least = omega (arith, p .turned y s l a b, q .most); most = omega (arith, p .turned y s l a b, q .least) }))
+        (λ a. subst⁻¹ Part (p .same y l (λ _ b. absurd (differ b a))) q)
 
-    module _ {Y : List ℕ} (first : Y ≡ set X (length P + z) (4294967296 - getD X (length P + z) 0)) where
-      up-kept : getD Y (2 * length P + z) 0 ≡ getD X (2 * length P + z) 0
-      up-kept =
-          flip-else X (length P + z) (turning-across .0) (turning-across .1) first (2 * length P + z)
-          (λ e. omega (arith, T .some))
+pub edge-only : {n z : ℕ} {X Y : List ℕ} → z < n → EdgeTurned n z X Y → Only n (3 * n) X Y
+edge-only l e = record {
+  long = e .long;
+  below = λ k h. e .others k (λ q. omega arith) (λ q. omega arith);
+  above = λ k h. e .others k (λ q. omega arith) (λ q. omega arith);
+}
 
-      pub turning-up : (2 * length P + z < length Y) × Part (getD Y (2 * length P + z) 0)
-      turning-up = (
-        omega (arith, t .inside, t .only .long, edges .long, ap length first, length-set X (length P + z) (4294967296 - getD X (length P + z) 0)),
-        subst⁻¹ Part (up-kept ∙ unturned (t .up)) (edges .up z some (t .inside)),
-      )
+-- stores in the first region leave the parts
+pub turning-kept : {P : List ℕ} {u z : ℕ} {W X Y : List ℕ} → ((k : ℕ) → length P ≤ k → getD Y k 0 ≡ getD X k 0)
+    → Turning P u z W X → Turning P u z W Y
+turning-kept {P} {u} {z} {W} {X} {Y} same t = record {
+  inside = t .inside;
+  above = t .above;
+  across = part (length P) (omega arith) (t .across);
+  up = part (2 * length P) (omega arith) (t .up);
+}
+  where
+    part : (at : ℕ) → length P ≤ at → TurningPart P u z at W X → TurningPart P u z at W Y
+    part at h p = record {
+      turned = λ y s l a b. omega (arith, same (at + y) (omega arith), p .turned y s l a b);
+      same = λ y l f. same (at + y) (omega arith) ∙ p .same y l f;
+    }
 
-      module _ {Z : List ℕ} (second : Z ≡ set Y (2 * length P + z) (4294967296 - getD Y (2 * length P + z) 0)) where
-        else₁ : (j : ℕ) → (j ≡ length P + z → ⊥) → getD Y j 0 ≡ getD X j 0
-        else₁ = flip-else X (length P + z) (turning-across .0) (turning-across .1) first
+pub turning-end : {P R : List ℕ} → Tree P R → {u z : ℕ} {W X : List ℕ} → z ≤ 0 → Turning P u z W X → Away P u W X
+turning-end {P} T {u} {z} {W} {X} h t = record { across = part-end (t .across); up = part-end (t .up) }
+  where
+    below : (y : ℕ) → 0 < y → under P y z ≡ false
+    below y p = subst⁻¹ (λ (i : ℕ). under P y i ≡ false) (let e : z ≡ 0 = omega arith in e) (root-below T y p)
 
-        else₂ : (j : ℕ) → (j ≡ 2 * length P + z → ⊥) → getD Z j 0 ≡ getD Y j 0
-        else₂ = flip-else Y (2 * length P + z) (turning-up .0) (turning-up .1) second
-
-        flipped-across : Flipped P z (length P) X Z
-        flipped-across = record {
-          here = omega (arith, else₂ (length P + z) (λ e. omega (arith, T .some)),
-              flip-here X (length P + z) (turning-across .0) (turning-across .1) first);
-          others = λ y m ne. else₂ (length P + y) (λ e. omega (arith, t .inside)) ∙ else₁ (length P + y) (λ e. ne (omega arith));
-        }
-
-        flipped-up : Flipped P z (2 * length P) X Z
-        flipped-up = record {
-          here = omega (arith, up-kept, flip-here Y (2 * length P + z) (turning-up .0) (turning-up .1) second);
-          others = λ y m ne. else₂ (2 * length P + y) (λ e. ne (omega arith)) ∙ else₁ (2 * length P + y) (λ e. omega (arith, t .inside));
-        }
-
-        pub turning-step : Turning P u (parent P z) W Z
-        turning-step = record {
-          inside = T .inside z (t .inside);
-          above = under-trans T (parent P z) z u l (under-parent T z (t .inside)) (t .above);
-          across = part-step T some (t .inside) (t .above) (t .across) flipped-across;
-          up = part-step T some (t .inside) (t .above) (t .up) flipped-up;
-          only = only-set (2 * length P + z) (4294967296 - getD Y (2 * length P + z) 0)
-              (only-set (length P + z) (4294967296 - getD X (length P + z) 0) (t .only) (omega arith) (omega (arith, t .inside)) first)
-              (omega arith) (omega (arith, t .inside)) second;
-        }
-
-  pub turning-end : {z : ℕ} {X : List ℕ} → z ≤ 0 → Turning P u z W X → Turned P u W X
-  turning-end {z} {X} h t = record { across = part-end (t .across); up = part-end (t .up); only = t .only }
-    where
-      below : (y : ℕ) → 0 < y → under P y z ≡ false
-      below y p = subst⁻¹ (λ (i : ℕ). under P y i ≡ false) (let e : z ≡ 0 = omega arith in e) (root-below T y p)
-
-      part-end : {at : ℕ} → TurningPart P u z at W X → TurnedPart P u at W X
-      part-end p = record {
-        turned = λ y s m a. p .turned y s m a (below y s);
-        same = λ y m f. p .same y m (λ s a. absurd (differ a (f s)));
-      }
+    part-end : {at : ℕ} → TurningPart P u z at W X → TurnedPart P u at W X
+    part-end p = record {
+      turned = λ y s m a. p .turned y s m a (below y s);
+      same = λ y m f. p .same y m (λ s a. absurd (differ a (f s)));
+    }

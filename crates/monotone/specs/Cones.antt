@@ -10,10 +10,13 @@
 --   edgeAt n W z          == the vector of the edge of node z
 --   Edges n W             == the nodes from 1 on have edges with small parts
 --   Pair n k              == k is a cone of two edges: the one clockwise of the other times 65,536, and that other
---   Holds n edge k us     == k stands for the vectors us: 1 for none, 2 where no half plane holds them, or the pair of their cone
+--   Holds n side edge ..  == k stands for the vectors us: 1 for none, 2 where no half plane holds them, or the pair of their
+--                            cone, whose two edges pass the test `side`
+--   any                   == every edge may be a side
 --   Formed n k            == k is 1, 2 or a pair
 --   Alone z e r           == r stands for one vector, the edge e of z
 --   Grown n edge k z r    == r stands for one vector more than k, the edge of z
+use mathlib.Core.Bool.{Bool, true}
 use mathlib.Core.List.{List, [], _∷_}
 use mathlib.Core.Path.{_≡_}
 use Prim.Native.Nat.{ℕ, _+_, _*_, _/_, _%_, _≤_, _<_}
@@ -75,13 +78,18 @@ pub record Pair (n k : ℕ) : Type 0 where
   pub high : 0 < k % 65536
   pub high-in : k % 65536 < n
 
-pub data Holds (n : ℕ) (edge : ℕ → Vec) (k : ℕ) (us : List Vec) : Type 0 where
-  empty : k ≡ 1 → us ≡ [] → Holds n edge k us
-  shut : k ≡ 2 → (HasHalfPlane us → ⊥) → Holds n edge k us
-  wide : Pair n k → Cone (edge (k / 65536)) (edge (k % 65536)) us → Holds n edge k us
+pub data Holds (n : ℕ) (side : ℕ → Bool) (edge : ℕ → Vec) (k : ℕ) (us : List Vec) : Type 0 where
+  empty : k ≡ 1 → us ≡ [] → Holds n side edge k us
+  shut : k ≡ 2 → (HasHalfPlane us → ⊥) → Holds n side edge k us
+  wide : Pair n k → side (k / 65536) ≡ true → side (k % 65536) ≡ true → Cone (edge (k / 65536)) (edge (k % 65536)) us
+      → Holds n side edge k us
 
-abbrev pub Formed : ℕ → ℕ → Type 0
-Formed n k = (k ≡ 1 → ⊥) → (k ≡ 2 → ⊥) → Pair n k
+abbrev pub any : ℕ → Bool
+any z = true
+
+pub record Formed (n k : ℕ) : Type 0 where
+  pub some : k ≡ 0 → ⊥
+  pub pair : (k ≡ 1 → ⊥) → (k ≡ 2 → ⊥) → Pair n k
 
 -- 2 for a zero vector, else the pair of the edge and itself
 pub data Alone (z : ℕ) (e : Vec) (r : ℕ) : Type 0 where
@@ -89,5 +97,6 @@ pub data Alone (z : ℕ) (e : Vec) (r : ℕ) : Type 0 where
   one : ((e .across ≡ pos 0) × (e .up ≡ pos 0) → ⊥) → r ≡ z * 65536 + z → Alone z e r
 
 pub record Grown (n : ℕ) (edge : ℕ → Vec) (k z r : ℕ) : Type 0 where
-  pub holds : (us : List Vec) → Holds n edge k us → Holds n edge r (edge z ∷ us)
+  pub holds : (side : ℕ → Bool) → side z ≡ true → (us : List Vec) → Holds n side edge k us → Holds n side edge r (edge z ∷ us)
+  pub formed : Formed n r
   pub fits : r < 4294967296

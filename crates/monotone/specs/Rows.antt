@@ -2,15 +2,18 @@
 -- path is not known. What the contracts of the loops cite.
 --
 --   WithEdges P W           == P is a tree, and W has its edges
+--   EdgeTurned n z W X  == X is W with the edge of z turned round
 --   TurnedPart P u ..   == the numbers at `at` with those of the edges from u to the root turned round
---   Turned P u W X      == X is W with the edges from u to the root turned round
+--   Away P u W X        == the edges of X are those of W, with those from u to the root turned round
+--   Turned P u W X      == so they are, and nothing else has changed
 --   Said P edge u k v   == k is the cone of the path from u to v
 --   Told P edge u W     == every known cone is that of the path from u
 --   Row P edge u W      == so it is, and those of u and its ancestors are known
 --   Reached P W v       == v's cone is known, or its parent's is
 --   Visited P W v X     == X is W with v's cone known, from its parent's
 --   Ordered P W         == the last region is an order in which children come before their parents
---   Coned P u W X       == X is W with every cone known
+--   Climbed P u W X     == X is W with its edges walked away from u, and the cones of u and its ancestors
+--   Coned P u W X       == X is W with every cone
 --   Coordinate P c      == c is a coordinate of the nodes, within 2,147,483,647
 --   DrawnPart P c at W  == the numbers at `at` are the edges' parts in the coordinate c
 --   Drawn P x y W       == the edges are those of a drawing, walked down
@@ -34,7 +37,7 @@ use Rattle.monotone.specs.declared.Verdict.the-variants.{Monotone, Turns
 use Rattle.monotone.specs.Monotone.{AllDirected, FirstTurn, Says}
 use Rattle.monotone.specs.Plane.{Vec}
 use Rattle.monotone.specs.PathEdges.{OnPath}
-use Rattle.monotone.specs.Cones.{edgeAt, Edges, Holds, Formed, Grown}
+use Rattle.monotone.specs.Cones.{edgeAt, Edges, Holds, any, Formed, Grown}
 
 pub record WithEdges (P W : List ℕ) : Type 0 where
   pub ranks : List ℕ
@@ -44,13 +47,22 @@ pub record WithEdges (P W : List ℕ) : Type 0 where
 ------------------------------------------------------------------------
 -- Edges walked away from u
 
+pub record EdgeTurned (n z : ℕ) (W X : List ℕ) : Type 0 where
+  pub across : getD X (n + z) 0 + getD W (n + z) 0 ≡ 4294967296
+  pub up : getD X (2 * n + z) 0 + getD W (2 * n + z) 0 ≡ 4294967296
+  pub others : (k : ℕ) → (k ≡ n + z → ⊥) → (k ≡ 2 * n + z → ⊥) → getD X k 0 ≡ getD W k 0
+  pub long : length X ≡ length W
+
 pub record TurnedPart (P : List ℕ) (u at : ℕ) (W X : List ℕ) : Type 0 where
   pub turned : (z : ℕ) → 0 < z → z < length P → under P z u ≡ true → getD X (at + z) 0 + getD W (at + z) 0 ≡ 4294967296
   pub same : (z : ℕ) → z < length P → (0 < z → under P z u ≡ false) → getD X (at + z) 0 ≡ getD W (at + z) 0
 
-pub record Turned (P : List ℕ) (u : ℕ) (W X : List ℕ) : Type 0 where
+pub record Away (P : List ℕ) (u : ℕ) (W X : List ℕ) : Type 0 where
   pub across : TurnedPart P u (length P) W X
   pub up : TurnedPart P u (2 * length P) W X
+
+pub record Turned (P : List ℕ) (u : ℕ) (W X : List ℕ) : Type 0 where
+  pub away : Away P u W X
   pub only : Only (length P) (3 * length P) W X
 
 ------------------------------------------------------------------------
@@ -59,7 +71,7 @@ pub record Turned (P : List ℕ) (u : ℕ) (W X : List ℕ) : Type 0 where
 pub record Said (P : List ℕ) (edge : ℕ → Vec) (u k v : ℕ) : Type 0 where
   pub way : List Vec
   pub path : OnPath P edge u v way
-  pub holds : Holds (length P) edge k way
+  pub holds : Holds (length P) any edge k way
 
 pub record Told (P : List ℕ) (edge : ℕ → Vec) (u : ℕ) (W : List ℕ) : Type 0 where
   pub said : (v : ℕ) → v < length P → (getD W v 0 ≡ 0 → ⊥) → Said P edge u (getD W v 0) v
@@ -87,12 +99,16 @@ pub record Ordered (P W : List ℕ) : Type 0 where
   pub most : (v : ℕ) → v < length P → number v ≤ length P
   pub later : (v : ℕ) → 0 < v → v < length P → number v < number (parent P v)
 
--- the paths are of the edges walked away from u
+pub record Climbed (P : List ℕ) (u : ℕ) (W X : List ℕ) : Type 0 where
+  pub away : Away P u W X
+  pub row : Row P (edgeAt (length P) X) u X
+  pub only : Only 0 (3 * length P) W X
+
+-- the paths are of the edges of the list `turned`, which are walked away from u
 pub record Coned (P : List ℕ) (u : ℕ) (W X : List ℕ) : Type 0 where
-  pub away : List ℕ
-  pub across : TurnedPart P u (length P) W away
-  pub up : TurnedPart P u (2 * length P) W away
-  pub said : (v : ℕ) → v < length P → Said P (edgeAt (length P) away) u (getD X v 0) v
+  pub turned : List ℕ
+  pub away : Away P u W turned
+  pub said : (v : ℕ) → v < length P → Said P (edgeAt (length P) turned) u (getD X v 0) v
   pub only : Only 0 (length P) W X
 
 ------------------------------------------------------------------------

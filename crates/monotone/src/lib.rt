@@ -10,16 +10,15 @@ ghost use Rattle.laws.specs.Search.{least};
 ghost use Rattle.table.specs.Table.{allLong, checked};
 ghost use Rattle.table.specs.Work.{Zeroed};
 ghost use Rattle.monotone.specs.Monotone.{beyond, Says, Untouched};
-ghost use Rattle.monotone.specs.Rows.{WithEdges, Turned, Row, Reached, Visited, Ordered, Coned, Coordinate, DrawnPart, Drawn, Found, Judged, Checked};
+ghost use Rattle.monotone.specs.Rows.{WithEdges, EdgeTurned, Turned, Climbed, Reached, Visited, Ordered, Coned, Coordinate, DrawnPart, Drawn, Found, Judged, Checked};
 ghost use Rattle.monotone.specs.Cones.{vec, Small, Near, Moved, partAt, edgeAt, Part, Edges, Alone, Formed, Grown};
-
+use table::Limits;
+use table::Validity;
 use table::clear;
 use table::get;
 use table::number;
 use table::put;
 use table::validate;
-use table::Limits;
-use table::Validity;
 
 // What the check answers: every pair has a direction, the first pair that has none, or a refusal's number and node.
 pub enum Verdict {
@@ -159,7 +158,16 @@ fn flip(work: &mut [u32], i: usize)
     put(work, i, 4294967296 - number);
 }
 
-// Turns the edges from u up to the root round, so that all are walked away from u; and back again.
+// Turns the edge of node z round.
+fn turn_edge(work: &mut [u32], n: usize, z: usize)
+    requires { ⌜ Edges n (now work) × (0 < z) × (z < n) ⌝ }
+    ensures { λ _. ⌜ EdgeTurned n z (now (work .entry)) (now (work .exit)) ⌝ }
+{
+    flip(work, n + z);
+    flip(work, 2 * n + z);
+}
+
+// Turns the edges from u up to the root round.
 fn turn(parent: &[u32], work: &mut [u32], u: usize)
     requires { ⌜ WithEdges (now parent) (now work) × (u < length (now parent)) ⌝ }
     ensures { λ _. ⌜ Turned (now (parent .entry)) u (now (work .entry)) (now (work .exit)) ⌝ }
@@ -167,27 +175,26 @@ fn turn(parent: &[u32], work: &mut [u32], u: usize)
     let n = parent.len();
     let mut z = u;
     while 0 < z {
-        flip(work, n + z);
-        flip(work, 2 * n + z);
+        turn_edge(work, n, z);
         z = get(parent, z);
     }
 }
 
-// The cones of the paths from u to itself and its ancestors.
+// The cones of the paths from u to itself and its ancestors. The edges on the way are turned round, so that all are walked
+// away from u.
 fn climb(parent: &[u32], work: &mut [u32], u: usize)
     requires { ⌜ WithEdges (now parent) (now work) × (u < length (now parent)) × Zeroed 0 (length (now parent)) (now work) ⌝ }
-    ensures { λ _. ⌜ Row (now (parent .entry)) (edgeAt (length (now (parent .entry))) (now (work .entry))) u (now (work .exit)) ⌝ }
-    ensures { λ _. ⌜ Only 0 (length (now (parent .entry))) (now (work .entry)) (now (work .exit)) ⌝ }
+    ensures { λ _. ⌜ Climbed (now (parent .entry)) u (now (work .entry)) (now (work .exit)) ⌝ }
 {
     let n = parent.len();
     put(work, u, 1);
+    let mut cone = 1;
     let mut z = u;
     while 0 < z {
-        let p = get(parent, z);
-        let cone = get(work, z);
-        let next = grow(work, n, cone, z);
-        put(work, p, next);
-        z = p;
+        turn_edge(work, n, z);
+        cone = grow(work, n, cone, z);
+        z = get(parent, z);
+        put(work, z, cone);
     }
 }
 
@@ -214,7 +221,6 @@ fn cones(parent: &[u32], work: &mut [u32], u: usize)
 {
     let n = parent.len();
     clear(work, 0, n);
-    turn(parent, work, u);
     climb(parent, work, u);
     let mut j = n;
     while 0 < j {
@@ -308,7 +314,14 @@ fn judge(parent: &[u32], rank: &[u32], x: &[u32], y: &[u32], work: &mut [u32]) -
 }
 
 // The check at given limits.
-fn check_within(limits: Limits, parent: &[u32], rank: &[u32], x: &[u32], y: &[u32], work: &mut [u32]) -> Verdict
+fn check_within(
+    limits: Limits,
+    parent: &[u32],
+    rank: &[u32],
+    x: &[u32],
+    y: &[u32],
+    work: &mut [u32],
+) -> Verdict
     requires { ⌜ (limits .nodes ≤ 65536) × (limits .place ≤ 2147483647) ⌝ }
     ensures { λ r. ⌜ Checked limits (now (parent .entry)) (now (rank .entry)) (now (x .entry)) (now (y .entry)) (now (work .entry)) (now (work .exit)) r ⌝ }
 {

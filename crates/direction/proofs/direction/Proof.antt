@@ -4,8 +4,8 @@ use Rattle.direction.proofs.Replies.{table-refused, table-ready, table-
 use Rattle.direction.proofs.direction.Statement.{statement}
 use Rattle.direction.proofs.direction.Tie as tie
 
-limits-requires : tie.Need-limits-requires
-limits-requires c κs = search needs
+large-limits-requires : tie.Need-large-limits-requires
+large-limits-requires c κs = search needs
 
 validate-requires : tie.Need-validate-requires
 validate-requires c κs = search needs
@@ -23,7 +23,7 @@ accepted-requires c κs =
     let at-limits = at-validate .before .before in
     let args = at-limits .before .before .before .before .args in
     table-ready (args .parent .now) (args .rank .now) (args .rule) (args .from) (args .to)
-    (at-limits .limits .ensures) (at-validate .validate .ensures) (told .enum-told .given .1)
+    (at-limits .large-limits .ensures) (at-validate .validate .ensures) (told .enum-told .given .1)
 
 same-length : tie.Need-same-length
 same-length c = search needs
@@ -35,7 +35,7 @@ returns c =
     let at-limits = at-validate .before .before in
     let args = at-limits .before .before .before .before .args in
     table-refused (args .parent .now) (args .rank .now) (args .rule) (args .from) (args .to)
-    (at-limits .limits .ensures) (at-validate .validate .ensures)
+    (at-limits .large-limits .ensures) (at-validate .validate .ensures)
     (known .number .given .0 .0) (known .number .given .0 .1 .0) (known .number .given .1)
 
 same-length-2 : tie.Need-same-length-2
@@ -49,14 +49,14 @@ returns-2 c =
     let at-limits = at-validate .before .before in
     let args = at-limits .before .before .before .before .args in
     table-accepted (args .parent .now) (args .rank .now) (args .rule) (args .from) (args .to)
-    (at-limits .limits .ensures) (at-validate .validate .ensures) (told .enum-told .given .1)
+    (at-limits .large-limits .ensures) (at-validate .validate .ensures) (told .enum-told .given .1)
     _ (at-accepted .accepted .ensures)
 
 pub direction-spec : {M : Type 1} → statement M
 direction-spec =
     tie.close
     (tie.spec
-    limits-requires
+    large-limits-requires
     validate-requires
     enum-known-number
     enum-told

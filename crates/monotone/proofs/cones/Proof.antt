@@ -1,4 +1,4 @@
--- The list is cleared, turned, climbed, spread over and turned back; each step says which region it leaves alone.
+-- The list is cleared, climbed, spread over and turned back; each step says which region it leaves alone.
 use mathlib.Core.List.{List}
 use mathlib.Core.Path.{ap, subst, subst⁻¹, _∙_}
 use Prim.Native.Nat.{ℕ, _-_}
@@ -8,8 +8,7 @@ use Rattle.laws.specs.Regions.{Only}
 use Rattle.table.specs.Work.{Zeroed}
 use Rattle.monotone.specs.Rows.{WithEdges, Row, Reached, Ordered, Visited, Coned}
 use Rattle.monotone.specs.Cones.{edgeAt}
-use Rattle.monotone.proofs.Spreading.{Spreading, spreading-start, spreading-reached, spreading-step, node-in, coned, ordered-kept, ready-kept, ready-turned}
-use Rattle.monotone.proofs.Climbing.{row-after}
+use Rattle.monotone.proofs.Spreading.{Spreading, spreading-start, spreading-reached, spreading-step, node-in, coned, ordered-kept, edges-stay, edges-away}
 use Rattle.monotone.proofs.cones.Statement.{statement}
 use Rattle.monotone.proofs.cones.Tie as tie
 
@@ -33,48 +32,28 @@ module _ (c : tie.After-clear Inv-loop μ-loop) where
   P = start .args .parent .now
 
   cleared : WithEdges P (c .clear .last .0)
-  cleared = ready-kept (c .clear .ensures .1) (start .pre .0)
-
-turn-requires : tie.Need-turn-requires Inv-loop μ-loop
-turn-requires c κs = (cleared (c .before .before .before), c .before .before .before .before .before .before .before .pre .2)
-
-module _ (c : tie.After-turn Inv-loop μ-loop) where
-  abbrev clear-of : tie.After-clear Inv-loop μ-loop
-  clear-of = c .before .before .before .before
-
-  turned : WithEdges (P clear-of) (c .turn .last .1 .0)
-  turned = ready-turned (c .turn .ensures) (cleared clear-of)
+  cleared = edges-stay (c .clear .ensures .1) (start .pre .0)
 
 climb-requires : tie.Need-climb-requires Inv-loop μ-loop
 climb-requires c κs =
-    let turn = c .before .before .before in
-    let clear = clear-of turn in (
-      turned turn,
-      start clear .pre .2,
-      record { at = λ k h l. turn .turn .ensures .only .below k l ∙ clear .clear .ensures .0 .at k h l },
-    )
+    let clear = c .before .before .before in
+    (cleared clear, start clear .pre .2, clear .clear .ensures .0)
 
 module _ (c : tie.After-climb Inv-loop μ-loop) where
-  abbrev turn-of : tie.After-turn Inv-loop μ-loop
-  turn-of = c .before .before .before .before
+  abbrev clear-of : tie.After-clear Inv-loop μ-loop
+  clear-of = c .before .before .before .before
 
   abbrev first : tie.Start Inv-loop μ-loop
-  first = start (clear-of turn-of)
+  first = start clear-of
 
   climbed : WithEdges (first .args .parent .now) (c .climb .last .1 .0)
-  climbed = ready-kept (c .climb .ensures .1) (turned turn-of)
+  climbed = edges-away (c .climb .ensures .away) (c .climb .ensures .only .long) (cleared clear-of)
 
   ordered : Ordered (first .args .parent .now) (c .climb .last .1 .0)
-  ordered = ordered-kept (λ j h.
-      c .climb .ensures .1 .above j (omega arith) ∙ turn-of .turn .ensures .only .above j h
-      ∙ clear-of turn-of .clear .ensures .1 .above j (omega arith)) (first .pre .1)
-
-  -- the edges of the climbed list are those that were climbed
-  row : Row (first .args .parent .now) (edgeAt (length (first .args .parent .now)) (c .climb .last .1 .0)) (first .args .u) (c .climb .last .1 .0)
-  row = row-after (c .climb .ensures .1) (c .climb .ensures .0)
+  ordered = ordered-kept (λ j h. c .climb .ensures .only .above j h ∙ clear-of .clear .ensures .1 .above j (omega arith)) (first .pre .1)
 
 loop-holds : tie.Need-loop-holds Inv-loop μ-loop
-loop-holds c = spreading-start (ordered (c .before .before)) (row (c .before .before))
+loop-holds c = spreading-start (ordered (c .before .before)) (c .before .before .climb .ensures .row)
 
 module _ (c : tie.At-loop Inv-loop μ-loop) where
   abbrev climb-of : tie.After-climb Inv-loop μ-loop
@@ -82,7 +61,7 @@ module _ (c : tie.At-loop Inv-loop μ-loop) where
 
   -- the list of the loop
   here : WithEdges (first climb-of .args .parent .now) (c .loop .work)
-  here = ready-kept (c .loop .inv .only) (climbed climb-of)
+  here = edges-stay (c .loop .inv .only) (climbed climb-of)
 
 sub-j : tie.Need-sub-j Inv-loop μ-loop
 sub-j c = omega arith
@@ -125,18 +104,17 @@ loop-again c =
     (subst (λ (v : ℕ). Visited (start .args .parent .now) (turn .loop .work) v (visited .visit .last .1 .0)) (node .get .ensures .0)
     (visited .visit .ensures))
 
-turn-requires-2 : tie.Need-turn-requires-2 Inv-loop μ-loop
-turn-requires-2 c κs =
+turn-requires : tie.Need-turn-requires Inv-loop μ-loop
+turn-requires c κs =
     let turn = c .before .before in
     (here turn, first (climb-of turn) .pre .2)
 
-result : (c : tie.After-turn2 Inv-loop μ-loop) → Coned (first (climb-of (c .before .before .before)) .args .parent .now)
-    (first (climb-of (c .before .before .before)) .args .u) (first (climb-of (c .before .before .before)) .args .work .now) (c .turn2 .last .1 .0)
+result : (c : tie.After-turn Inv-loop μ-loop) → Coned (first (climb-of (c .before .before .before)) .args .parent .now)
+    (first (climb-of (c .before .before .before)) .args .u) (first (climb-of (c .before .before .before)) .args .work .now) (c .turn .last .1 .0)
 result c =
     let turn = c .before .before .before in
     let climb = climb-of turn in
-    coned (clear-of (turn-of climb) .clear .ensures .1) (turn-of climb .turn .ensures) (climb .climb .ensures .1)
-    (c .before .before .loop-test .left) (turn .loop .inv) (c .turn2 .ensures)
+    coned (clear-of climb .clear .ensures .1) (climb .climb .ensures) (c .before .before .loop-test .left) (turn .loop .inv) (c .turn .ensures)
 
 same-length : tie.Need-same-length Inv-loop μ-loop
 same-length c = result (c .before .before) .only .long
@@ -151,7 +129,6 @@ cones-spec =
     Inv-loop
     μ-loop
     clear-requires
-    turn-requires
     climb-requires
     loop-holds
     sub-j
@@ -161,6 +138,6 @@ cones-spec =
     visit-requires
     loop-less
     loop-again
-    turn-requires-2
+    turn-requires
     same-length
     returns)

@@ -12,7 +12,7 @@ abbrev start : tie.After-step → tie.Start
 start c = c .before .before .before .before .before .before .before
 
 pair : (c : tie.After-step) → Pair (start c .args .n) (start c .args .cone)
-pair c = start c .pre .3 (c .before .before .before .if2 .left) (c .before .before .before .before .before .if1 .left)
+pair c = start c .pre .3 .pair (c .before .before .before .if2 .left) (c .before .before .before .before .before .if1 .left)
 
 -- the move, in the words of `Growth`
 abbrev edges : tie.After-step → ℕ → Vec
@@ -45,13 +45,13 @@ returns-2 c =
 edge-requires-2 : tie.Need-edge-requires-2
 edge-requires-2 c κs =
     let start = c .before .before .before .before in
-    let pair = start .pre .3 (c .if2 .left) (c .before .before .if1 .left) in
+    let pair = start .pre .3 .pair (c .if2 .left) (c .before .before .if1 .left) in
     (start .pre .0, pair .low, pair .low-in)
 
 edge-requires-3 : tie.Need-edge-requires-3
 edge-requires-3 c κs =
     let start = c .before .before .before .before .before in
-    let pair = start .pre .3 (c .before .if2 .left) (c .before .before .before .if1 .left) in
+    let pair = start .pre .3 .pair (c .before .if2 .left) (c .before .before .before .if1 .left) in
     (start .pre .0, pair .high, pair .high-in)
 
 step-requires : tie.Need-step-requires

@@ -8,7 +8,7 @@ use Rattle.laws.specs.Regions.{Only, only-refl, only-trans}
 use Rattle.monotone.specs.declared.Verdict.{Verdict}
 use Rattle.monotone.specs.declared.Verdict.the-variants.{Monotone}
 use Rattle.monotone.specs.Rows.{WithEdges, Ordered, Found}
-use Rattle.monotone.proofs.Spreading.{ready-kept, ordered-kept}
+use Rattle.monotone.proofs.Spreading.{edges-stay, ordered-kept}
 use Rattle.monotone.proofs.Deciding.{OverRows, OverRow, passed-none, clear-more, passed-row, first-turn, all-passed}
 use Rattle.monotone.proofs.pairs.Statement.{statement}
 use Rattle.monotone.proofs.pairs.Tie as tie
@@ -32,7 +32,7 @@ cones-requires : tie.Need-cones-requires Inv-loop μ-loop Inv-pairs μ-pairs
 cones-requires c κs =
     let rows = c .before .before in
     let start = rows .before .before .before in (
-      ready-kept (rows .pairs .inv .only) (start .pre .0),
+      edges-stay (rows .pairs .inv .only) (start .pre .0),
       ordered-kept (λ j h. rows .pairs .inv .only .above j (omega arith)) (start .pre .1),
       c .before .pairs-test .taken,
     )

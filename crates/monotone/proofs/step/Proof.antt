@@ -18,48 +18,60 @@ returns c =
     let start = c .before .before .before .before in
     let p = c .before .before .before .cross-product in
     let q = c .before .before .cross-product2 in
-    record { after = λ us cone. high (vec (start .args .u)) cone
-    (above-yes (p .ensures) (p .ok) (c .before .if1 .taken)) (below-yes (q .ensures) (q .ok) (c .if2 .taken)) }
+    record {
+      after = λ us cone. high (vec (start .args .u)) cone
+          (above-yes (p .ensures) (p .ok) (c .before .if1 .taken)) (below-yes (q .ensures) (q .ok) (c .if2 .taken));
+    }
 
 returns-2 : tie.Need-returns-2
 returns-2 c =
     let start = c .before .before .before .before in
     let p = c .before .before .before .cross-product in
     let q = c .before .before .cross-product2 in
-    record { after = λ us cone. keep-high (vec (start .args .u)) cone
-    (above-yes (p .ensures) (p .ok) (c .before .if1 .taken)) (below-no (q .ensures) (q .ok) (c .if2 .left)) }
+    record {
+      after = λ us cone. keep-high (vec (start .args .u)) cone
+          (above-yes (p .ensures) (p .ok) (c .before .if1 .taken)) (below-no (q .ensures) (q .ok) (c .if2 .left));
+    }
 
 returns-3 : tie.Need-returns-3
 returns-3 c =
     let start = c .before .before .before .before .before in
     let p = c .before .before .before .before .cross-product in
     let q = c .before .before .before .cross-product2 in
-    record { after = λ us cone. low (vec (start .args .u)) cone
-    (above-yes (q .ensures) (q .ok) (c .before .if3 .taken)) (below-yes (p .ensures) (p .ok) (c .if4 .taken)) }
+    record {
+      after = λ us cone. low (vec (start .args .u)) cone
+          (above-yes (q .ensures) (q .ok) (c .before .if3 .taken)) (below-yes (p .ensures) (p .ok) (c .if4 .taken));
+    }
 
 returns-4 : tie.Need-returns-4
 returns-4 c =
     let start = c .before .before .before .before .before in
     let p = c .before .before .before .before .cross-product in
     let q = c .before .before .before .cross-product2 in
-    record { after = λ us cone. keep-low (vec (start .args .u)) cone
-    (above-yes (q .ensures) (q .ok) (c .before .if3 .taken)) (below-no (p .ensures) (p .ok) (c .if4 .left)) }
+    record {
+      after = λ us cone. keep-low (vec (start .args .u)) cone
+          (above-yes (q .ensures) (q .ok) (c .before .if3 .taken)) (below-no (p .ensures) (p .ok) (c .if4 .left));
+    }
 
 returns-5 : tie.Need-returns-5
 returns-5 c =
     let start = c .before .before .before .before .before in
     let p = c .before .before .before .before .cross-product in
     let q = c .before .before .before .cross-product2 in
-    record { after = λ us cone. against-low (vec (start .args .u)) cone
-    (below-yes (p .ensures) (p .ok) (c .if5 .taken)) (above-no (q .ensures) (q .ok) (c .before .if3 .left)) }
+    record {
+      after = λ us cone. against-low (vec (start .args .u)) cone
+          (below-yes (p .ensures) (p .ok) (c .if5 .taken)) (above-no (q .ensures) (q .ok) (c .before .if3 .left));
+    }
 
 returns-6 : tie.Need-returns-6
 returns-6 c =
     let start = c .before .before .before .before .before .before in
     let p = c .before .before .before .before .before .cross-product in
     let q = c .before .before .before .before .cross-product2 in
-    record { after = λ us cone. against-high (vec (start .args .u)) cone
-    (above-no (p .ensures) (p .ok) (c .before .before .before .if1 .left)) (below-yes (q .ensures) (q .ok) (c .if6 .taken)) }
+    record {
+      after = λ us cone. against-high (vec (start .args .u)) cone
+          (above-no (p .ensures) (p .ok) (c .before .before .before .if1 .left)) (below-yes (q .ensures) (q .ok) (c .if6 .taken));
+    }
 
 dot-product-requires : tie.Need-dot-product-requires
 dot-product-requires c κs = search needs
@@ -69,20 +81,24 @@ returns-7 c =
     let start = c .before .before .before .before .before .before .before .before in
     let p = c .before .before .before .before .before .before .before .cross-product in
     let q = c .before .before .before .before .before .before .cross-product2 in
-    record { after = λ us cone. keep-along (vec (start .args .u)) cone
-    (≤≥ _ (above-no (p .ensures) (p .ok) (c .before .before .before .before .before .if1 .left)) (below-no (p .ensures) (p .ok) (c .before .before .before .if5 .left)))
-    (≤≥ _ (above-no (q .ensures) (q .ok) (c .before .before .before .before .if3 .left)) (below-no (q .ensures) (q .ok) (c .before .before .if6 .left)))
-    (above-yes (c .before .dot-product .ensures) (c .before .dot-product .ok) (c .if7 .taken)) }
+    record {
+      after = λ us cone. keep-along (vec (start .args .u)) cone
+          (≤≥ _ (above-no (p .ensures) (p .ok) (c .before .before .before .before .before .if1 .left)) (below-no (p .ensures) (p .ok) (c .before .before .before .if5 .left)))
+          (≤≥ _ (above-no (q .ensures) (q .ok) (c .before .before .before .before .if3 .left)) (below-no (q .ensures) (q .ok) (c .before .before .if6 .left)))
+          (above-yes (c .before .dot-product .ensures) (c .before .dot-product .ok) (c .if7 .taken));
+    }
 
 returns-8 : tie.Need-returns-8
 returns-8 c =
     let start = c .before .before .before .before .before .before .before .before in
     let p = c .before .before .before .before .before .before .before .cross-product in
     let q = c .before .before .before .before .before .before .cross-product2 in
-    record { after = λ us cone. against-along (vec (start .args .u)) cone
-    (≤≥ _ (above-no (p .ensures) (p .ok) (c .before .before .before .before .before .if1 .left)) (below-no (p .ensures) (p .ok) (c .before .before .before .if5 .left)))
-    (≤≥ _ (above-no (q .ensures) (q .ok) (c .before .before .before .before .if3 .left)) (below-no (q .ensures) (q .ok) (c .before .before .if6 .left)))
-    (above-no (c .before .dot-product .ensures) (c .before .dot-product .ok) (c .if7 .left)) }
+    record {
+      after = λ us cone. against-along (vec (start .args .u)) cone
+          (≤≥ _ (above-no (p .ensures) (p .ok) (c .before .before .before .before .before .if1 .left)) (below-no (p .ensures) (p .ok) (c .before .before .before .if5 .left)))
+          (≤≥ _ (above-no (q .ensures) (q .ok) (c .before .before .before .before .if3 .left)) (below-no (q .ensures) (q .ok) (c .before .before .if6 .left)))
+          (above-no (c .before .dot-product .ensures) (c .before .dot-product .ok) (c .if7 .left));
+    }
 
 pub step-spec : {M : Type 1} → statement M
 step-spec =

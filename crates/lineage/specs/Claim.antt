@@ -1,0 +1,102 @@
+-- The claim over lists of calls (demand 3; document 01, "Lists of calls"), as one type.
+--
+--   Call                    == a lengthen or a shorten: a node, a count, and the length of the work list; each may be anything
+--   make .. s call          == the outcome of the call on the drawing s
+--   run .. s calls          == the drawing after the list, each call made on what the one before left
+--   added, taken .. z       == the sum of the counts of the accepted lengthens, and shortens, of z in the list
+--   lengthOf .. z           == 1 + added - taken
+--   Assured ..              == all that is said of the drawing t that a list of calls leaves
+--   Claim L                 == it is so for every accepted table, both rules and every list of calls, drawn at the limits L
+use mathlib.Core.Bool.{Bool, true, false, cond}
+use mathlib.Core.List.{List, [], _∷_}
+use mathlib.Core.Logic.{_≢_}
+use mathlib.Core.Path.{_≡_}
+use Prim.Native.Nat.{ℕ, _+_, _-_, _*_, _≤_, _<_}
+use lib.Dec.{eqb}
+use lib.IntN.{ℤ}
+use lib.ListN.{length, getD}
+use Rattle.table.specs.declared.Limits.{Limits}
+use Rattle.table.specs.Paths.{PathRises, SharePoint, CommonEnd}
+use Rattle.table.specs.Table.{parent, large, checked}
+use Rattle.slopes.specs.declared.Rule.{Rule}
+use Rattle.slopes.specs.Slopes.{acrossOf, upOf}
+use Rattle.drawing.specs.declared.Framed.{Framed}
+use Rattle.drawing.specs.declared.Framed.the-variants.{Frame, Refused}
+use Rattle.drawing.specs.Drawing.{Drawing, Outcome, edge, pathSum, layout, lengthen, shorten}
+use Rattle.direction.specs.declared.Heading.the-variants.{Along}
+use Rattle.direction.specs.Direction.{direction}
+use Rattle.monotone.specs.declared.Verdict.{Verdict}
+use Rattle.monotone.specs.declared.Verdict.the-variants.{Monotone}
+use Rattle.monotone.specs.Monotone.{Says}
+
+------------------------------------------------------------------------
+-- Lists of calls
+
+pub data Call : Type 0 where
+  Lengthen : ℕ → ℕ → ℕ → Call
+  Shorten : ℕ → ℕ → ℕ → Call
+
+unfoldable pub accepted : Framed → Bool
+accepted (Frame w h) = true
+accepted (Refused k v) = false
+
+-- what a call adds to z, or takes from z, if it is accepted
+unfoldable pub adds : Call → ℕ → ℕ
+adds (Lengthen v c work) z = cond (eqb v z) c 0
+adds (Shorten v c work) z = 0
+
+unfoldable pub takes : Call → ℕ → ℕ
+takes (Lengthen v c work) z = 0
+takes (Shorten v c work) z = cond (eqb v z) c 0
+
+module _ (L : Limits) (P R : List ℕ) (rule : Rule) where
+  unfoldable pub make : Drawing → Call → Outcome
+  make s (Lengthen v c work) = lengthen L P R rule s work v c
+  make s (Shorten v c work) = shorten L P R rule s work v c
+
+  unfoldable pub run : Drawing → List Call → Drawing
+  run s [] = s
+  run s (c ∷ cs) = run (make s c .drawing) cs
+
+  -- the sum of `what` over the accepted calls
+  unfoldable pub total : (Call → ℕ → ℕ) → Drawing → List Call → ℕ → ℕ
+  total what s [] z = 0
+  total what s (c ∷ cs) z = cond (accepted (make s c .answer)) (what c z) 0 + total what (make s c .drawing) cs z
+
+  unfoldable pub added : Drawing → List Call → ℕ → ℕ
+  added = total adds
+
+  unfoldable pub taken : Drawing → List Call → ℕ → ℕ
+  taken = total takes
+
+------------------------------------------------------------------------
+-- The claim
+
+-- how many times its slope the edge of z is to be long
+abbrev pub lengthOf : Limits → List ℕ → List ℕ → Rule → Drawing → List Call → ℕ → ℕ
+lengthOf L P R rule s calls z = 1 + added L P R rule s calls z - taken L P R rule s calls z
+
+pub record Assured (L : Limits) (P R : List ℕ) (rule : Rule) (s : Drawing) (calls : List Call) (t : Drawing) : Type
+    0 where
+  -- for any two different nodes the direction call gives a direction along which every edge of their path rises
+  pub directions : (u v : ℕ) → u < length P → v < length P → u ≢ v
+      → (d e : ℤ) × (direction large P R rule (4 * length P) u v ≡ Along d e) × PathRises P (t .x) (t .y) d e u v
+  -- no two edges share a point other than a node at which both end
+  pub no-crossing : (v w m i j : ℕ) → 1 ≤ v → v < length P → 1 ≤ w → w < length P → v ≢ w
+      → SharePoint (t .x) (t .y) (parent P v) v (parent P w) w m i j
+      → CommonEnd (t .x) (t .y) (parent P v) v (parent P w) w m i
+  -- no place is beyond the limit
+  pub within : (v : ℕ) → v < length P → (getD (t .x) v 0 ≤ L .place) × (getD (t .y) v 0 ≤ L .place)
+  -- every place is the sum along its path, and no more is taken than was added
+  pub taken-least : (v : ℕ) → 1 ≤ v → v < length P → taken L P R rule s calls v ≤ added L P R rule s calls v
+  pub places-x : (v : ℕ) → v < length P
+      → getD (t .x) v 0 ≡ pathSum P (λ z. acrossOf (edge P R rule z) * lengthOf L P R rule s calls z) v
+  pub places-y : (v : ℕ) → v < length P
+      → getD (t .y) v 0 ≡ pathSum P (λ z. upOf (edge P R rule z) * lengthOf L P R rule s calls z) v
+  -- up to 4,096 nodes, whatever the check answers is Monotone
+  pub check : length P ≤ checked .nodes → (r : Verdict) → Says checked P R (t .x) (t .y) (4 * length P) r → r ≡ Monotone
+
+unfoldable pub Claim : Limits → Type 0
+Claim L = (P R : List ℕ) (rule : Rule) (old : Drawing) (work w h : ℕ) (s : Drawing)
+    → layout L P R rule old work ≡ record { answer = Frame w h; drawing = s }
+    → (calls : List Call) → Assured L P R rule s calls (run L P R rule s calls)

@@ -1,0 +1,276 @@
+-- Demand 3, proved: any list of calls leaves a drawing whose times are 1 + added - taken, and of a drawing all the rest
+-- follows.
+--
+--   Fitting L   == fresh drawings fit the limits L, which are within those of direction and of the check
+--   demand-3    == the claim at the large limits
+use mathlib.Core.Bool.{Bool, true, false, cond}
+use mathlib.Core.List.{List, [], _∷_}
+use mathlib.Core.Logic.{_⊎_, inl, inr, ⊎-elim, _≢_}
+use mathlib.Core.Option.{Option, none, some}
+use mathlib.Core.Path.{_≡_, refl, sym, ap, subst, subst⁻¹, _∙_}
+use Prim.Native.Nat.{ℕ, _+_, _-_, _*_, _≤_, _<_}
+use native.Mathlib.Nat.{mul-comm}
+use native.Mathlib.Omega.{arith}
+use lib.Dec.{ltb, eqb}
+use lib.IntN.{ℤ}
+use lib.ListN.{length, getD}
+use borrow.Author.Tests.{eqb-true, eqb-false, eq-eqb, ne-eqb, le-ltb}
+use Rattle.laws.specs.Refusals.{some-not-none, orElse-second, orElse-none, refuseLeast-no}
+use Rattle.laws.specs.Search.{least, Refusal}
+use Rattle.laws.specs.SearchLaws.{least-is}
+use Rattle.laws.specs.Tests.{by-eq, neither-is}
+use Rattle.table.specs.Acceptance.{Shape, shape-fits, Accepting, accepting}
+use Rattle.table.specs.declared.Limits.{Limits}
+use Rattle.table.specs.Paths.{PathRises, SharePoint, CommonEnd}
+use Rattle.table.specs.Table.{parent, allLong, shapeFault, treeFault, tableFault, large, checked}
+use Rattle.table.specs.TableLaws.{Tree}
+use Rattle.slopes.specs.declared.Rule.{Rule}
+use Rattle.slopes.specs.declared.Slope.{Slope}
+use Rattle.slopes.specs.Slopes.{acrossOf, upOf}
+use Rattle.drawing.specs.CallLaws.{settled, Untouched, Stretching, layout-drawn, lengthen-does, shorten-does}
+use Rattle.drawing.specs.declared.Framed.{Framed}
+use Rattle.drawing.specs.declared.Framed.the-variants.{Frame, Refused}
+use Rattle.drawing.specs.Drawing.{Drawing, Outcome, lists, edge, frame, pathSum, fresh, layout, lengthen, shorten}
+use Rattle.drawing.specs.DrawingLaws.{Coordinate, Drawn, stepOf}
+use Rattle.drawing.specs.FreshLaws.{Roomy, large-roomy, fresh-once}
+use Rattle.drawing.specs.PathLaws.{Adds, adds-path, path-cong}
+use Rattle.direction.specs.declared.Heading.the-variants.{Along}
+use Rattle.direction.specs.Direction.{direction}
+use Rattle.direction.specs.DirectionLaws.{direction-rises, edges-apart}
+use Rattle.monotone.specs.declared.Verdict.{Verdict}
+use Rattle.monotone.specs.declared.Verdict.the-variants.{Monotone, Turns}
+use Rattle.monotone.specs.Monotone.{HasDirection, beyond, checkFault, FirstTurn, Says}
+use Rattle.lineage.specs.Claim.{Call, Lengthen, Shorten, accepted, adds, takes, make, run, total, added, taken, lengthOf, Assured, Claim}
+
+pub record Fitting (L : Limits) : Type 0 where
+  pub roomy : Roomy L
+  pub few : L .nodes ≤ large .nodes
+  pub near : L .place ≤ checked .place
+
+------------------------------------------------------------------------
+-- One call
+
+counts-here : (v z k : ℕ) → v ≡ z → cond (eqb v z) k 0 ≡ k
+counts-here v z k e = rw (eq-eqb v z e) refl
+
+counts-nowhere : (v z k : ℕ) → (v ≡ z → ⊥) → cond (eqb v z) k 0 ≡ 0
+counts-nowhere v z k ne = rw (ne-eqb v z ne) refl
+
+module _ (L : Limits) (P R : List ℕ) (rule : Rule) where
+  -- what a call counts for z: its count if it is accepted
+  share : (Call → ℕ → ℕ) → Drawing → Call → ℕ → ℕ
+  share what s c z = cond (accepted (make L P R rule s c .answer)) (what c z) 0
+
+  record Step (s : Drawing) (c : Call) : Type 0 where
+    pub drawn : Drawn (L .place) P R rule (make L P R rule s c .drawing)
+    pub times : (z : ℕ) → z < length P
+        → getD (make L P R rule s c .drawing .times) z 0 + share takes s c z ≡ getD (s .times) z 0 + share adds s c z
+
+  refused-share : (what : Call → ℕ → ℕ) (s : Drawing) (c : Call) (z : ℕ) → Untouched s (make L P R rule s c)
+      → share what s c z ≡ 0
+  unfolding share accepted
+  refused-share what s c z u = rw (u .answer) refl
+
+  accepted-share : (what : Call → ℕ → ℕ) (s : Drawing) (c : Call) (z : ℕ)
+      → make L P R rule s c .answer ≡ frame (make L P R rule s c .drawing) → share what s c z ≡ what c z
+  unfolding share accepted frame
+  accepted-share what s c z e = rw e refl
+
+  untouched-step : (s : Drawing) (c : Call) → Drawn (L .place) P R rule s → Untouched s (make L P R rule s c) → Step s c
+  untouched-step s c d u = record {
+    drawn = subst⁻¹ (Drawn (L .place) P R rule) (u .drawing) d;
+    times = λ z l. omega (
+      arith,
+      ap (λ (t : Drawing). getD (t .times) z 0) (u .drawing),
+      refused-share takes s c z u,
+      refused-share adds s c z u,
+    );
+  }
+
+  step : (s : Drawing) (c : Call) → Drawn (L .place) P R rule s → Step s c
+  unfolding make adds takes
+  step s (Lengthen v k work) d =
+      ⊎-elim (untouched-step s (Lengthen v k work) d)
+      (λ (m : Stretching L P R rule v k s (lengthen L P R rule s work v k .drawing)
+      (lengthen L P R rule s work v k)). record {
+        drawn = m .drawn;
+        times = λ z l. by-eq v z
+            (λ e. omega (
+              arith,
+              ap (λ (y : ℕ). getD (lengthen L P R rule s work v k .drawing .times) y 0) e,
+              ap (λ (y : ℕ). getD (s .times) y 0) e,
+              m .stretch .here,
+              accepted-share takes s (Lengthen v k work) z (m .answer),
+              accepted-share adds s (Lengthen v k work) z (m .answer) ∙ counts-here v z k e,
+            ))
+            (λ ne. omega (
+              arith,
+              m .stretch .other z l (λ e. ne (sym e)),
+              accepted-share takes s (Lengthen v k work) z (m .answer),
+              accepted-share adds s (Lengthen v k work) z (m .answer) ∙ counts-nowhere v z k ne,
+            ));
+      })
+      (lengthen-does L P R rule s work v k)
+  step s (Shorten v k work) d =
+      ⊎-elim (untouched-step s (Shorten v k work) d)
+      (λ (m : Stretching L P R rule v k (shorten L P R rule s work v k .drawing) s
+      (shorten L P R rule s work v k)). record {
+        drawn = m .drawn;
+        times = λ z l. by-eq v z
+            (λ e. omega (
+              arith,
+              ap (λ (y : ℕ). getD (shorten L P R rule s work v k .drawing .times) y 0) e,
+              ap (λ (y : ℕ). getD (s .times) y 0) e,
+              m .stretch .here,
+              accepted-share adds s (Shorten v k work) z (m .answer),
+              accepted-share takes s (Shorten v k work) z (m .answer) ∙ counts-here v z k e,
+            ))
+            (λ ne. omega (
+              arith,
+              m .stretch .other z l (λ e. ne (sym e)),
+              accepted-share adds s (Shorten v k work) z (m .answer),
+              accepted-share takes s (Shorten v k work) z (m .answer) ∙ counts-nowhere v z k ne,
+            ));
+      })
+      (shorten-does L P R rule s work v k)
+
+  ------------------------------------------------------------------------
+  -- A list of calls
+
+  pub record Ran (s : Drawing) (calls : List Call) : Type 0 where
+    pub drawn : Drawn (L .place) P R rule (run L P R rule s calls)
+    pub times : (z : ℕ) → z < length P
+        → getD (run L P R rule s calls .times) z 0 + taken L P R rule s calls z ≡ getD (s .times) z 0 + added L P R
+        rule s calls z
+
+  pub ran : (s : Drawing) (calls : List Call) → Drawn (L .place) P R rule s → Ran s calls
+  unfolding run total added taken share
+  ran s [] d = record { drawn = d; times = λ z l. refl }
+  ran s (c ∷ cs) d =
+      let one = step s c d in
+      let rest = ran (make L P R rule s c .drawing) cs (one .drawn) in
+      record { drawn = rest .drawn; times = λ z l. omega (arith, one .times z l, rest .times z l) }
+
+------------------------------------------------------------------------
+-- The claim
+
+-- a table that is accepted at some limits is at all that are wide enough
+accepted-within : (L M : Limits) (P R : List ℕ) (long more : Bool) (work : ℕ) → tableFault L P R long work ≡ none
+    → length P ≤ M .nodes → more ≡ true → tableFault M P R more (4 * length P) ≡ none
+unfolding tableFault
+accepted-within L M P R long more work e few lists =
+    let both = orElse-none (shapeFault L P R long work) (treeFault P R) e in
+    let s = accepting L P R long work e .shape in
+    orElse-second _ _ (shape-fits {L = M} (record {
+      some = s .some;
+      few = few;
+      ranks = s .ranks;
+      others = lists;
+      work-long = refl;
+    }))
+    ∙ both .1
+
+module _ (L : Limits) (fit : Fitting L) (P R : List ℕ) (rule : Rule) (long : Bool) (work : ℕ)
+    (fine : tableFault L P R long work ≡ none) (tree : Tree P R) (s : Drawing) (calls : List Call)
+    (r : Ran L P R rule s calls)
+    (once : (v : ℕ) → v < length P → getD (s .times) v 0 ≡ 1) where
+  t : Drawing
+  t = run L P R rule s calls
+
+  few : length P ≤ L .nodes
+  few = accepting L P R long work fine .shape .few
+
+  times-are : (z : ℕ) → z < length P → getD (t .times) z 0 + taken L P R rule s calls z ≡ 1 + added L P R rule s calls z
+  unfolding t
+  times-are z l = omega (arith, r .times z l, once z l)
+
+  long-as : (z : ℕ) → z < length P → getD (t .times) z 0 ≡ lengthOf L P R rule s calls z
+  unfolding t
+  long-as z l = omega (arith, times-are z l)
+
+  -- a coordinate, with the part of a slope that it adds up
+  places : (part : Slope → ℕ) (X : List ℕ) → Coordinate (L .place) P R rule (t .times) part X → (v : ℕ) → v < length P
+      → getD X v 0 ≡ pathSum P (λ z. part (edge P R rule z) * lengthOf L P R rule s calls z) v
+  unfolding t
+  places part X c v l =
+      adds-path tree (c .adds) v l
+      ∙ path-cong tree (stepOf P R rule part (t .times)) (λ z. part (edge P R rule z) * lengthOf L P R rule s calls z)
+      (λ z a m. ap (λ (k : ℕ). k * part (edge P R rule z)) (long-as z m) ∙ mul-comm _ _) v l
+
+  stands : Rattle.direction.specs.RisingPaths.Drawn P (Rattle.direction.specs.Direction.edgeSlope P R rule)
+      (λ v. getD (t .times) v 0) (t .x) (t .y)
+  unfolding t edge
+  stands = record {
+    times-from-1 = λ v a l. r .drawn .some v l;
+    at-x = r .drawn .x .adds .at;
+    at-y = r .drawn .y .adds .at;
+  }
+
+  directed : (u v : ℕ) → u < length P → v < length P → u ≢ v
+      → (d e : ℤ) × (direction large P R rule (4 * length P) u v ≡ Along d e) × PathRises P (t .x) (t .y) d e u v
+  directed u v lu lv ne =
+      direction-rises tree rule stands large (4 * length P) u v
+      (accepted-within L large P R long true work fine (omega (arith, few, fit .few)) refl) lu lv ne
+
+  -- the check refuses nothing here
+  unrefused : length P ≤ checked .nodes → checkFault checked P R (t .x) (t .y) (4 * length P) ≡ none
+  unfolding checkFault beyond allLong t
+  unrefused h =
+      orElse-second _ _ (accepted-within L checked P R long _ work fine h lists)
+      ∙ refuseLeast-no (checked .beyond) (length P) (beyond (checked .place) (t .x) (t .y)) (length P)
+      (least-is (beyond (checked .place) (t .x) (t .y)) (length P) (length P) (omega arith) near
+      (λ l. absurd (omega arith)))
+      (omega arith)
+    where
+      lists : allLong (length P) (t .x ∷ t .y ∷ []) ≡ true
+      lists = rw (eq-eqb _ _ (r .drawn .x .long), eq-eqb _ _ (r .drawn .y .long)) refl
+
+      near : (v : ℕ) → v < length P → beyond (checked .place) (t .x) (t .y) v ≡ false
+      near v l =
+          neither-is
+          (le-ltb (checked .place) (getD (t .x) v 0) (omega (arith, r .drawn .x .within v l, fit .near)))
+          (le-ltb (checked .place) (getD (t .y) v 0) (omega (arith, r .drawn .y .within v l, fit .near)))
+
+  says : length P ≤ checked .nodes → (a : Verdict) → Says checked P R (t .x) (t .y) (4 * length P) a → a ≡ Monotone
+  unfolding Says
+  says h Monotone c = refl
+  says h (Turns u v) c =
+      let d = directed u v (omega (arith, c .1 .ordered, c .1 .inside)) (c .1 .inside)
+      (λ e. omega (arith, c .1 .ordered)) in
+      absurd (c .1 .turns (record { d = d .0; e = d .1; rises = d .3 }))
+  says h (Rattle.monotone.specs.declared.Verdict.the-variants.Refused k v) c =
+      absurd (some-not-none (sym c ∙ unrefused h))
+
+  pub assured : Assured L P R rule s calls (run L P R rule s calls)
+  unfolding t
+  assured = record {
+    directions = directed;
+    no-crossing = edges-apart tree rule stands;
+    within = λ v l. (r .drawn .x .within v l, r .drawn .y .within v l);
+    taken-least = λ v a l. omega (arith, times-are v l, r .drawn .some v l);
+    places-x = places acrossOf (t .x) (r .drawn .x);
+    places-y = places upOf (t .y) (r .drawn .y);
+    check = says;
+  }
+
+layout-fine : (L : Limits) (P R : List ℕ) (rule : Rule) (old : Drawing) (work w h : ℕ) (s : Drawing)
+    → layout L P R rule old work ≡ record { answer = Frame w h; drawing = s }
+    → tableFault L P R (allLong (length P) (lists old)) work ≡ none
+unfolding layout
+layout-fine L P R rule old work w h s e =
+    settled old (fresh P R rule) (tableFault L P R (allLong (length P) (lists old)) work) e .0
+
+pub claim : (L : Limits) → Fitting L → Claim L
+unfolding Claim
+claim L fit P R rule old work w h s e calls =
+    let l = layout-drawn L (fit .roomy) P R rule old work w h s e in
+    assured L fit P R rule (allLong (length P) (lists old)) work (layout-fine L P R rule old work w h s e) (l .0) s
+    calls
+    (ran L P R rule s calls (l .1))
+    (λ v b. ap (λ (d : Drawing). getD (d .times) v 0) (sym (l .2)) ∙ fresh-once (l .0) rule v b)
+
+pub large-fits : Fitting large
+large-fits = record { roomy = large-roomy; few = omega arith; near = omega arith }
+
+pub demand-3 : Claim large
+demand-3 = claim large large-fits

@@ -1,0 +1,40 @@
+-- A lent list of calls, made one after the other: what the claim's run is to running code.
+--
+--   callOf kind v c work     == a call: kind 0 lengthens, any other shortens
+--   callsTo K N C work m     == the first m calls of the lists of kinds K, nodes N and counts C
+--   replay L ..              == the drawing after layout and, where it accepts, the calls
+--   Replayed ..              == the contract of `replay`
+use mathlib.Core.Bool.{cond}
+use mathlib.Core.List.{List, [], _∷_, _++_}
+use mathlib.Core.Path.{_≡_, refl, ap, _∙_}
+use Prim.Native.Nat.{ℕ, zero, suc}
+use lib.Dec.{eqb}
+use lib.ListN.{length, getD}
+use Rattle.table.specs.declared.Limits.{Limits}
+use Rattle.slopes.specs.declared.Rule.{Rule}
+use Rattle.drawing.specs.declared.Framed.{Framed}
+use Rattle.drawing.specs.Drawing.{Drawing, Outcome, layout}
+use Rattle.lineage.specs.Claim.{Call, Lengthen, Shorten, accepted, make, run}
+
+unfoldable pub callOf : ℕ → ℕ → ℕ → ℕ → Call
+callOf kind v c work = cond (eqb kind 0) (Lengthen v c work) (Shorten v c work)
+
+unfoldable pub callsTo : List ℕ → List ℕ → List ℕ → ℕ → ℕ → List Call
+callsTo K N C work zero = []
+callsTo K N C work (suc m) = callsTo K N C work m ++ (callOf (getD K m 0) (getD N m 0) (getD C m 0) work ∷ [])
+
+module _ (L : Limits) (P R : List ℕ) (rule : Rule) where
+  unfoldable pub after : Outcome → List Call → Drawing
+  after o calls = cond (accepted (o .answer)) (run L P R rule (o .drawing) calls) (o .drawing)
+
+  pub run-last : (s : Drawing) (cs : List Call) (c : Call)
+      → run L P R rule s (cs ++ (c ∷ [])) ≡ make L P R rule (run L P R rule s cs) c .drawing
+  unfolding run
+  run-last s [] c = refl
+  run-last s (b ∷ cs) c = run-last (make L P R rule s b .drawing) cs c
+
+-- the reply is layout's, and the lists are what the run leaves
+pub record Replayed (L : Limits) (P R : List ℕ) (rule : Rule) (s : Drawing) (work : ℕ) (K N C : List ℕ)
+    (t : Drawing) (r : Framed) : Type 0 where
+  pub answer : r ≡ layout L P R rule s work .answer
+  pub drawing : t ≡ after L P R rule (layout L P R rule s work) (callsTo K N C work (length K))
