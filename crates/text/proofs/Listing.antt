@@ -6,7 +6,7 @@ use native.Mathlib.Omega.{arith}
 use lib.ListN.{length, getD, take, length-append}
 use lib.Seq.{take-suc, take-all}
 use Rattle.text.specs.Text.{field, Places, lotLine, lotLines, sheetOf, sheetWord, Appended}
-use Rattle.text.specs.TextLaws.{length-lotLines, appended-none, appended-on, appended-is}
+use Rattle.text.specs.TextLaws.{length-field, length-lotLines, appended-none, appended-on, appended-is}
 use Rattle.text.specs.Writing.{lineOf, titleOf, Lines}
 
 ------------------------------------------------------------------------
@@ -85,3 +85,16 @@ module _ (S : Places) (n : ℕ) where
       → Appended A C 0 c (sheetOf S n)
   unfolding titleOf sheetOf
   sheet-written p q = appended-is (appended-on p q) (append-assoc sheetWord (field n 10) (lotLines S n))
+
+-- after the title there is room for the lines
+pub lines-room : {S : Places} {n : ℕ} {A B : List ℕ} {e : ℕ} → Lines S n A 17 → Appended A B 0 e (titleOf n)
+    → Lines S n B e
+unfolding titleOf
+lines-room {n = n} s a = record {
+  steep-x = s .steep-x;
+  steep-y = s .steep-y;
+  balanced-x = s .balanced-x;
+  balanced-y = s .balanced-y;
+  few = s .few;
+  room = omega (arith, s .room, a .ends, a .long, length-append sheetWord (field n 10), length-field n 10);
+}

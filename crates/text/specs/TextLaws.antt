@@ -53,8 +53,12 @@ length-digits (suc f) n =
     by-lt n 10
     (λ l. omega (arith, ap length (digits-one f n l)))
     (λ l.
-    omega (arith, ap length (digits-more f n l), length-append (digits f (n / 10)) ((48 + n % 10) ∷ []),
-    length-digits f (n / 10)))
+    omega (
+      arith,
+      ap length (digits-more f n l),
+      length-append (digits f (n / 10)) ((48 + n % 10) ∷ []),
+      length-digits f (n / 10),
+    ))
 
 pub digits-some : (f n : ℕ) → 0 < length (digits (suc f) n)
 digits-some f n =
@@ -117,9 +121,12 @@ digits-plain (suc f) n a h =
     by-lt n 10
     (λ l. omega (arith, ap (λ (d : List ℕ). getD d 0 0) (digits-one (suc f) n l)))
     (λ l.
-    omega (arith, ap (λ (d : List ℕ). getD d 0 0) (digits-more (suc f) n l),
-    List·getD-append (digits (suc f) (n / 10)) ((48 + n % 10) ∷ []) 0 0 (digits-some f (n / 10)),
-    digits-plain f (n / 10) (omega arith) (tenth-below f n h)))
+    omega (
+      arith,
+      ap (λ (d : List ℕ). getD d 0 0) (digits-more (suc f) n l),
+      List·getD-append (digits (suc f) (n / 10)) ((48 + n % 10) ∷ []) 0 0 (digits-some f (n / 10)),
+      digits-plain f (n / 10) (omega arith) (tenth-below f n h),
+    ))
 
 -- the first digit of a number other than 0 is not 0
 pub decimal-plain : (n : ℕ) → 0 < n → n < 10 ^ 10 → 49 ≤ getD (decimal n) 0 0

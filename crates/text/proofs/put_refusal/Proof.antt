@@ -1,34 +1,47 @@
+-- The word, then two numbers.
+use native.Mathlib.Omega.{arith}
+use Rattle.text.specs.Text.{refusalOf}
+use Rattle.text.specs.TextLaws.{length-field, appended-on}
 use borrow.Author.Needs.{needs}
 use Rattle.text.proofs.put_refusal.Statement.{statement}
 use Rattle.text.proofs.put_refusal.Tie as tie
-use Rattle.text.proofs.put_refusal.Reads as reads
-use Rattle.text.proofs.put_refusal.Lts as lts
-use Rattle.text.proofs.put_field.Reads as put-field-reads
-use Rattle.text.proofs.put_word.Reads as put-word-reads
 
--- src/lib.rt:97:34
 slice-aggregate-put-word : tie.Need-slice-aggregate-put-word
 slice-aggregate-put-word c = search needs
 
--- src/lib.rt:97:9
 put-word-requires : tie.Need-put-word-requires
 put-word-requires c κs = search needs
 
--- src/lib.rt:98:9
 put-field-requires : tie.Need-put-field-requires
 put-field-requires c κs = search needs
 
--- src/lib.rt:99:5
 put-field-requires-2 : tie.Need-put-field-requires-2
-put-field-requires-2 c κs = ?
+put-field-requires-2 c κs =
+    let at-put-field = c .before .before .before in
+    let at-put-word = at-put-field .before .before .before .before in
+    let at-entry = at-put-word .before .before .before .before in (
+      omega (
+        arith,
+        at-entry .pre,
+        at-put-word .put-word .ensures .ends,
+        at-put-word .put-word .ensures .long,
+        at-put-field .put-field .ensures .ends,
+        at-put-field .put-field .ensures .long,
+        length-field (at-entry .args .number) 32,
+      ),
+      omega (arith, at-entry .good),
+    )
 
--- src/lib.rt:93:1
 same-length : tie.Need-same-length
 same-length c = search needs
 
--- src/lib.rt:93:1
 returns : tie.Need-returns
-returns c = ?
+unfolding refusalOf
+returns c =
+    let at-put-field2 = c .before .before in
+    let at-put-field = at-put-field2 .before .before .before .before in
+    let at-put-word = at-put-field .before .before .before .before in
+    appended-on (at-put-word .put-word .ensures) (appended-on (at-put-field .put-field .ensures) (at-put-field2 .put-field2 .ensures))
 
 pub put-refusal-spec : {M : Type 1} → statement M
 put-refusal-spec =

@@ -1,30 +1,28 @@
+-- The word, then the number.
+use Rattle.text.specs.TextLaws.{appended-on}
+use Rattle.text.specs.Writing.{titleOf}
 use borrow.Author.Needs.{needs}
 use Rattle.text.proofs.put_title.Statement.{statement}
 use Rattle.text.proofs.put_title.Tie as tie
-use Rattle.text.proofs.put_title.Reads as reads
-use Rattle.text.proofs.put_title.Lts as lts
-use Rattle.text.proofs.put_field.Reads as put-field-reads
-use Rattle.text.proofs.put_word.Reads as put-word-reads
 
--- src/lib.rt:107:34
 slice-aggregate-put-word : tie.Need-slice-aggregate-put-word
 slice-aggregate-put-word c = search needs
 
--- src/lib.rt:107:9
 put-word-requires : tie.Need-put-word-requires
 put-word-requires c κs = search needs
 
--- src/lib.rt:108:5
 put-field-requires : tie.Need-put-field-requires
 put-field-requires c κs = search needs
 
--- src/lib.rt:103:1
 same-length : tie.Need-same-length
 same-length c = search needs
 
--- src/lib.rt:103:1
 returns : tie.Need-returns
-returns c = ?
+unfolding titleOf
+returns c =
+    let at-put-field = c .before .before in
+    let at-put-word = at-put-field .before .before .before .before in
+    appended-on (at-put-word .put-word .ensures) (at-put-field .put-field .ensures)
 
 pub put-title-spec : {M : Type 1} → statement M
 put-title-spec =
