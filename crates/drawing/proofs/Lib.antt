@@ -3,3 +3,4 @@ pub mod Maximum
 pub mod Laying
 pub mod Settling
 pub mod Fitting
+pub mod Examining
