@@ -4,3 +4,4 @@ pub mod Laying
 pub mod Settling
 pub mod Fitting
 pub mod Examining
+pub mod Subtrees
