@@ -5,3 +5,4 @@ pub mod Settling
 pub mod Fitting
 pub mod Examining
 pub mod Subtrees
+pub mod Stretching
