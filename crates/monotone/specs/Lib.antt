@@ -4,3 +4,5 @@ pub mod Plane
 pub mod PathEdges
 pub mod Cones
 pub mod Rows
+pub mod Decision
+pub mod Examples

@@ -191,10 +191,11 @@ fn climb(parent: &[u32], work: &mut [u32], u: usize)
     let mut cone = 1;
     let mut z = u;
     while 0 < z {
+        let p = get(parent, z);
         turn_edge(work, n, z);
         cone = grow(work, n, cone, z);
-        z = get(parent, z);
-        put(work, z, cone);
+        put(work, p, cone);
+        z = p;
     }
 }
 

@@ -38,27 +38,41 @@ module _ (c : tie.At-loop Inv-loop μ-loop) where
   abbrev start : tie.Start Inv-loop μ-loop
   start = stored .before .before .before .before
 
-  first-only : Only 0 (length (start .args .parent .now)) (start .args .work .now) (stored .put .last .0)
+  abbrev first : List ℕ
+  first = stored .put .last .0
+
+  first-only : Only 0 (length (start .args .parent .now)) (start .args .work .now) first
   first-only = only-store (start .args .u) 1 (omega arith) (start .pre .1) (stored .put .ensures)
 
-  first-edges : Edges (length (start .args .parent .now)) (stored .put .last .0)
+  first-edges : Edges (length (start .args .parent .now)) first
   first-edges = edges-kept first-only (start .pre .0 .edges)
 
   here-edges : Edges (length (start .args .parent .now)) (c .loop .work)
   here-edges = turning-edges (c .loop .inv .turning) (c .loop .inv .only .long) first-edges
 
+get-requires : tie.Need-get-requires Inv-loop μ-loop
+get-requires c κs = c .before .loop .inv .turning .inside
+
 turn-edge-requires : tie.Need-turn-edge-requires Inv-loop μ-loop
 turn-edge-requires c κs =
-    let at = c .before .before in
-    (here-edges at, c .before .loop-test .taken, at .loop .inv .turning .inside)
+    let test = c .before .before in
+    (here-edges (test .before), test .loop-test .taken, test .before .loop .inv .turning .inside)
 
 -- after the edge of z is turned
 module _ (c : tie.After-turn-edge Inv-loop μ-loop) where
+  abbrev parent : tie.After-get Inv-loop μ-loop
+  parent = c .before .before
+
   abbrev at : tie.At-loop Inv-loop μ-loop
-  at = c .before .before .before
+  at = parent .before .before
 
   some : 0 < at .loop .z
-  some = c .before .before .loop-test .taken
+  some = parent .before .loop-test .taken
+
+  parent-in : parent .get .result < length (start at .args .parent .now)
+  parent-in =
+      let inside = start at .pre .0 .tree .inside (at .loop .z) (at .loop .inv .turning .inside) in
+      omega (arith, parent .get .ensures .0, inside)
 
   next-edges : Edges (length (start at .args .parent .now)) (c .turn-edge .last .0)
   next-edges =
@@ -71,41 +85,32 @@ grow-requires c κs =
     let inv = at turned .loop .inv in
     (next-edges turned, some turned, inv .turning .inside, inv .formed)
 
-get-requires : tie.Need-get-requires Inv-loop μ-loop
-get-requires c κs =
-    let turned = c .before .before .before .before in
-    at turned .loop .inv .turning .inside
-
 put-requires-2 : tie.Need-put-requires-2 Inv-loop μ-loop
 put-requires-2 c κs =
-    let parent = c .before in
-    let grown = parent .before in
+    let grown = c .before in
     let turned = grown .before .before .before .before in
-    let inside = start (at turned) .pre .0 .tree .inside (at turned .loop .z) (at turned .loop .inv .turning .inside) in
-    (omega (arith, parent .get .ensures .0, inside, next-edges turned .long), grown .grow .ensures .fits)
+    (omega (arith, parent-in turned, next-edges turned .long), grown .grow .ensures .fits)
 
 loop-less : tie.Need-loop-less Inv-loop μ-loop
 loop-less c =
-    let parent = c .before .before .before .before in
-    let turned = parent .before .before .before .before .before in
+    let turned = c .before .before .before .before .before .before .before .before in
     let begun = start (at turned) in
     let less = depth-parent (begun .pre .0 .tree) (at turned .loop .z) (some turned) (at turned .loop .inv .turning .inside) in
-    omega (arith, less, ap (depth (begun .args .parent .now)) (parent .get .ensures .0))
+    omega (arith, less, ap (depth (begun .args .parent .now)) (parent turned .get .ensures .0))
 
 loop-again : tie.Need-loop-again Inv-loop μ-loop
 loop-again c =
     let kept = c .before .before in
-    let parent = kept .before .before in
-    let grown = parent .before in
+    let grown = kept .before .before in
     let turned = grown .before .before .before .before in
     let begun = start (at turned) in
     let known = begun .pre in
-    let inside = known .0 .tree .inside (at turned .loop .z) (at turned .loop .inv .turning .inside) in
-    subst⁻¹ (λ (z : ℕ). Climbing (begun .args .parent .now) (begun .args .u) z (stored (at turned) .put .last .0) (kept .put2 .last .0) (grown .grow .result))
-    (parent .get .ensures .0)
+    let is-parent = parent turned .get .ensures .0 in
+    subst⁻¹ (λ (z : ℕ). Climbing (begun .args .parent .now) (begun .args .u) z (first (at turned)) (kept .put2 .last .0) (grown .grow .result))
+    is-parent
     (climbing-step (known .0 .tree) (known .1) (some turned) (at turned .loop .inv) (turned .turn-edge .ensures)
-    (grown .grow .result) (grown .grow .ensures) (omega (arith, inside, next-edges turned .long))
-    (kept .put2 .ensures ∙ ap (λ (p : ℕ). set (turned .turn-edge .last .0) p (grown .grow .result)) (parent .get .ensures .0)))
+    (grown .grow .result) (grown .grow .ensures) (omega (arith, is-parent, parent-in turned, next-edges turned .long))
+    (kept .put2 .ensures ∙ ap (λ (p : ℕ). set (turned .turn-edge .last .0) p (grown .grow .result)) is-parent))
 
 same-length : tie.Need-same-length Inv-loop μ-loop
 same-length c = c .before .loop .inv .only .long ∙ first-only (c .before) .long
@@ -123,9 +128,9 @@ climb-spec =
     μ-loop
     put-requires
     loop-holds
+    get-requires
     turn-edge-requires
     grow-requires
-    get-requires
     put-requires-2
     loop-less
     loop-again
