@@ -346,11 +346,6 @@ pub fn check(parent: &[u32], rank: &[u32], x: &[u32], y: &[u32], work: &mut [u32
     ensures { λ r. ⌜ Says checked (now (parent .entry)) (now (rank .entry)) (now (x .entry)) (now (y .entry)) (length (now (work .entry))) r ⌝ }
     ensures { λ r. ⌜ Untouched checked r (now (work .entry)) (now (work .exit)) ⌝ }
 {
-    let limits = Limits {
-        nodes: 4096,
-        surplus: 14,
-        place: 2147483647,
-        beyond: 15,
-    };
+    let limits = table::checked_limits();
     check_within(limits, parent, rank, x, y, work)
 }
