@@ -15,6 +15,7 @@
 --   any                   == every edge may be a side
 --   Formed n k            == k is 1, 2 or a pair
 --   Alone z e r           == r stands for one vector, the edge e of z
+--   Growing n W k z       == k is a cone, to which the edge of z is to be added
 --   Grown n edge k z r    == r stands for one vector more than k, the edge of z
 use mathlib.Core.Bool.{Bool, true}
 use mathlib.Core.List.{List, [], _∷_}
@@ -95,6 +96,12 @@ pub record Formed (n k : ℕ) : Type 0 where
 pub data Alone (z : ℕ) (e : Vec) (r : ℕ) : Type 0 where
   none : (e .across ≡ pos 0) × (e .up ≡ pos 0) → r ≡ 2 → Alone z e r
   one : ((e .across ≡ pos 0) × (e .up ≡ pos 0) → ⊥) → r ≡ z * 65536 + z → Alone z e r
+
+pub record Growing (n : ℕ) (W : List ℕ) (k z : ℕ) : Type 0 where
+  pub edges : Edges n W
+  pub some : 0 < z
+  pub inside : z < n
+  pub formed : Formed n k
 
 pub record Grown (n : ℕ) (edge : ℕ → Vec) (k z r : ℕ) : Type 0 where
   pub holds : (side : ℕ → Bool) → side z ≡ true → (us : List Vec) → Holds n side edge k us → Holds n side edge r (edge z ∷ us)

@@ -252,10 +252,13 @@ module _ (P x y : List ℕ) where
   unfolding Says
   found-right L R work ok = by-test (ltb (firstNode P x y) (length P))
       (λ t. rw t (ok, first-turn (ltb-true _ _ t)))
-      (λ t. rw t (ok, record {
-        directed = λ u v l k.
-            let all : length P ≤ firstNode P x y = ltb-false (firstNode P x y) (length P) t in row-directed u v (omega arith) l k;
-      }))
+      (λ t. rw t (
+        ok,
+        record {
+          directed = λ u v l k.
+              let all : length P ≤ firstNode P x y = ltb-false (firstNode P x y) (length P) t in row-directed u v (omega arith) l k;
+        },
+      ))
     where
       first-turn : firstNode P x y < length P → FirstTurn P x y (firstNode P x y) (secondNode P x y (firstNode P x y))
       first-turn l =

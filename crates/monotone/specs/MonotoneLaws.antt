@@ -17,7 +17,7 @@ use Rattle.table.specs.declared.Limits.{Limits}
 use Rattle.monotone.specs.declared.Verdict.{Verdict}
 use Rattle.monotone.specs.declared.Verdict.the-variants.{Monotone, Turns, Refused}
 use Rattle.table.specs.Paths.{step, Rises}
-use Rattle.monotone.specs.Monotone.{ Before, checkFault, Says}
+use Rattle.monotone.specs.Monotone.{Before, checkFault, Says}
 
 ------------------------------------------------------------------------
 -- Edges

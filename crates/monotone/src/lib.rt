@@ -11,15 +11,14 @@ ghost use Rattle.table.specs.Table.{allLong, checked};
 ghost use Rattle.table.specs.Work.{Zeroed};
 ghost use Rattle.monotone.specs.Monotone.{beyond, Says, Untouched};
 ghost use Rattle.monotone.specs.Rows.{WithEdges, EdgeTurned, Turned, Climbed, Reached, Visited, Ordered, Coned, Coordinate, DrawnPart, Drawn, Found, Judged, Checked};
-ghost use Rattle.monotone.specs.Cones.{vec, Small, Near, Moved, partAt, edgeAt, Part, Edges, Alone, Formed, Grown};
-
+ghost use Rattle.monotone.specs.Cones.{vec, Small, Near, Moved, partAt, edgeAt, Part, Edges, Alone, Growing, Grown};
+use table::Limits;
+use table::Validity;
 use table::clear;
 use table::get;
 use table::number;
 use table::put;
 use table::validate;
-use table::Limits;
-use table::Validity;
 
 // What the check answers: every pair has a direction, the first pair that has none, or a refusal's number and node.
 pub enum Verdict {
@@ -128,7 +127,7 @@ fn alone(z: usize, e: Vector) -> usize
 
 // The cone of a path with one edge more, that of node z.
 fn grow(work: &[u32], n: usize, cone: usize, z: usize) -> usize
-    requires { ⌜ Edges n (now work) × (0 < z) × (z < n) × Formed n cone ⌝ }
+    requires { ⌜ Growing n (now work) cone z ⌝ }
     ensures { λ r. ⌜ Grown n (edgeAt n (now (work .entry))) cone z r ⌝ }
 {
     if cone == 2 {
@@ -316,7 +315,14 @@ fn judge(parent: &[u32], rank: &[u32], x: &[u32], y: &[u32], work: &mut [u32]) -
 }
 
 // The check at given limits.
-fn check_within(limits: Limits, parent: &[u32], rank: &[u32], x: &[u32], y: &[u32], work: &mut [u32]) -> Verdict
+fn check_within(
+    limits: Limits,
+    parent: &[u32],
+    rank: &[u32],
+    x: &[u32],
+    y: &[u32],
+    work: &mut [u32],
+) -> Verdict
     requires { ⌜ (limits .nodes ≤ 65536) × (limits .place ≤ 2147483647) ⌝ }
     ensures { λ r. ⌜ Checked limits (now (parent .entry)) (now (rank .entry)) (now (x .entry)) (now (y .entry)) (now (work .entry)) (now (work .exit)) r ⌝ }
 {

@@ -27,7 +27,8 @@ loop-holds : tie.Need-loop-holds Inv-loop μ-loop
 loop-holds c =
     let stored = c .before .before in
     let start = stored .before .before .before .before in
-    climbing-start (start .pre .0 .tree) (start .pre .1) (start .args .work .now) (omega (arith, start .pre .0 .edges .long)) (start .pre .2)
+    let known = start .pre in
+    climbing-start (known .0 .tree) (known .1) (start .args .work .now) (omega (arith, known .0 .edges .long)) (known .2)
     (stored .put .ensures)
 
 -- what the first store leaves, and where the loop stands
@@ -76,14 +77,15 @@ module _ (c : tie.After-turn-edge Inv-loop μ-loop) where
 
   next-edges : Edges (length (start at .args .parent .now)) (c .turn-edge .last .0)
   next-edges =
-      turning-edges (climbing-turned (start at .pre .0 .tree) (start at .pre .1) some (at .loop .inv) (c .turn-edge .ensures))
+      turning-edges (climbing-turned (start at .pre .0 .tree) (start at .pre .1) some (at .loop .inv)
+      (c .turn-edge .ensures))
       (c .turn-edge .ensures .long ∙ at .loop .inv .only .long) (first-edges at)
 
 grow-requires : tie.Need-grow-requires Inv-loop μ-loop
 grow-requires c κs =
     let turned = c .before .before .before in
     let inv = at turned .loop .inv in
-    (next-edges turned, some turned, inv .turning .inside, inv .formed)
+    record { edges = next-edges turned; some = some turned; inside = inv .turning .inside; formed = inv .formed }
 
 put-requires-2 : tie.Need-put-requires-2 Inv-loop μ-loop
 put-requires-2 c κs =
@@ -95,7 +97,8 @@ loop-less : tie.Need-loop-less Inv-loop μ-loop
 loop-less c =
     let turned = c .before .before .before .before .before .before .before .before in
     let begun = start (at turned) in
-    let less = depth-parent (begun .pre .0 .tree) (at turned .loop .z) (some turned) (at turned .loop .inv .turning .inside) in
+    let less = depth-parent (begun .pre .0 .tree) (at turned .loop .z) (some turned)
+    (at turned .loop .inv .turning .inside) in
     omega (arith, less, ap (depth (begun .args .parent .now)) (parent turned .get .ensures .0))
 
 loop-again : tie.Need-loop-again Inv-loop μ-loop
@@ -106,7 +109,8 @@ loop-again c =
     let begun = start (at turned) in
     let known = begun .pre in
     let is-parent = parent turned .get .ensures .0 in
-    subst⁻¹ (λ (z : ℕ). Climbing (begun .args .parent .now) (begun .args .u) z (first (at turned)) (kept .put2 .last .0) (grown .grow .result))
+    subst⁻¹ (λ (z : ℕ).
+    Climbing (begun .args .parent .now) (begun .args .u) z (first (at turned)) (kept .put2 .last .0) (grown .grow .result))
     is-parent
     (climbing-step (known .0 .tree) (known .1) (some turned) (at turned .loop .inv) (turned .turn-edge .ensures)
     (grown .grow .result) (grown .grow .ensures) (omega (arith, is-parent, parent-in turned, next-edges turned .long))
