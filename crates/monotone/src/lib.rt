@@ -1,15 +1,21 @@
 // Whether a given drawing of a tree is monotone.
+//
+// A pair of nodes has a direction exactly when the vectors of its tree path lie in an open half plane, and of those the
+// two outermost are all that a longer path asks for: they are the path's cone. For each node u in turn one pass gives
+// every node v the cone of the path from u: up to u's ancestors first, then down from the root, each from its
+// neighbour's. The work list holds, of n numbers each, the cones, the parts across and up of the nodes' edges, and the
+// post-order. While u has its turn, the edges from u to the root are turned round, so that every edge is walked away
+// from u.
 ghost use mathlib.Core.List.{List, [], _∷_};
 ghost use mathlib.Core.Path.{_≡_};
 ghost use Prim.Native.Nat.{ℕ, _+_, _-_, _*_, _≤_, _<_};
-ghost use lib.IntN.{pos, _-ℤ_};
 ghost use lib.ListN.{length, getD, set};
-ghost use Rattle.monotone.specs.Plane.{cross, dot};
 ghost use Rattle.laws.specs.Regions.{Only};
 ghost use Rattle.laws.specs.Search.{least};
 ghost use Rattle.table.specs.Table.{allLong, checked};
 ghost use Rattle.table.specs.Work.{Zeroed};
 ghost use Rattle.monotone.specs.Monotone.{beyond, Says, Untouched};
+ghost use Rattle.monotone.specs.Plane.{cross, dot};
 ghost use Rattle.monotone.specs.Rows.{WithEdges, EdgeTurned, Turned, Climbed, Reached, Visited, Ordered, Coned, Coordinate, DrawnPart, Drawn, Found, Judged, Checked};
 ghost use Rattle.monotone.specs.Cones.{vec, Small, Near, Moved, partAt, edgeAt, Part, Edges, Alone, Growing, Grown};
 use table::Limits;
@@ -33,8 +39,8 @@ struct Vector {
     up: i64,
 }
 
-// What one vector more does to a cone: nothing, it becomes the counter-clockwise or the clockwise side, or no half plane
-// is left.
+// What one vector more does to a cone: nothing, it becomes the counter-clockwise or the clockwise side, or no half
+// plane is left.
 enum Move {
     Keep,
     High,
@@ -180,10 +186,11 @@ fn turn(parent: &[u32], work: &mut [u32], u: usize)
     }
 }
 
-// The cones of the paths from u to itself and its ancestors. The edges on the way are turned round, so that all are walked
-// away from u.
+// The cones of the paths from u to itself and its ancestors. The edges on the way are turned round, so that all are
+// walked away from u.
 fn climb(parent: &[u32], work: &mut [u32], u: usize)
-    requires { ⌜ WithEdges (now parent) (now work) × (u < length (now parent)) × Zeroed 0 (length (now parent)) (now work) ⌝ }
+    requires { ⌜ WithEdges (now parent) (now work) × (u < length (now parent)) ⌝ }
+    requires { ⌜ Zeroed 0 (length (now parent)) (now work) ⌝ }
     ensures { λ _. ⌜ Climbed (now (parent .entry)) u (now (work .entry)) (now (work .exit)) ⌝ }
 {
     let n = parent.len();

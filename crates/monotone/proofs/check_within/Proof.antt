@@ -40,7 +40,8 @@ module _ (c : tie.After-validate) where
   valid-as : (r : Validity) → c .validate .result ≡ r → Valid r
   valid-as r e = subst Valid e (c .validate .ensures)
 
-  same : lengths .both-long .result ≡ allLong (length (start .args .parent .now)) (start .args .x .now ∷ start .args .y .now ∷ [])
+  same : lengths .both-long .result
+      ≡ allLong (length (start .args .parent .now)) (start .args .x .now ∷ start .args .y .now ∷ [])
   same = lengths .both-long .ensures
 
 -- the table is accepted
@@ -71,7 +72,8 @@ returns : tie.Need-returns
 returns c =
     let told = c .before .before in
     let at = start (checked told) .args in
-    checked-far (at .x .now) (at .y .now) (same (checked told)) (accepted told) (c .before .too-far .ensures) (c .if1 .taken)
+    checked-far (at .x .now) (at .y .now) (same (checked told)) (accepted told) (c .before .too-far .ensures)
+    (c .if1 .taken)
 
 judge-requires : tie.Need-judge-requires
 judge-requires c κs =

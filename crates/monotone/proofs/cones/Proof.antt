@@ -37,7 +37,7 @@ module _ (c : tie.After-clear Inv-loop μ-loop) where
 climb-requires : tie.Need-climb-requires Inv-loop μ-loop
 climb-requires c κs =
     let clear = c .before .before .before in
-    (cleared clear, start clear .pre .2, clear .clear .ensures .0)
+    ((cleared clear, start clear .pre .2), clear .clear .ensures .0)
 
 module _ (c : tie.After-climb Inv-loop μ-loop) where
   abbrev clear-of : tie.After-clear Inv-loop μ-loop
@@ -89,7 +89,8 @@ visit-requires c κs =
     let start = first (climb-of turn) in (
       here turn,
       subst⁻¹ (Reached (start .args .parent .now) (turn .loop .work)) (node .get .ensures .0)
-          (spreading-reached (start .pre .0 .tree) (start .pre .2) (climbed (climb-of turn) .edges) (test .loop-test .taken)
+          (spreading-reached (start .pre .0 .tree) (start .pre .2) (climbed (climb-of turn) .edges)
+          (test .loop-test .taken)
           (turn .loop .inv)),
     )
 
@@ -122,7 +123,8 @@ module _ (c : tie.After-turn Inv-loop μ-loop) where
 
   result : Coned (args .args .parent .now) (args .args .u) (args .args .work .now) (c .turn .last .1 .0)
   result =
-      coned (clear-of (climb-of at) .clear .ensures .1) (climb-of at .climb .ensures) (c .before .before .loop-test .left)
+      coned (clear-of (climb-of at) .clear .ensures .1) (climb-of at .climb .ensures)
+      (c .before .before .loop-test .left)
       (at .loop .inv) (c .turn .ensures)
 
 same-length : tie.Need-same-length Inv-loop μ-loop

@@ -1,5 +1,4 @@
--- Each return is a case of `Growth`: a shut cone stays shut, the first edge is a cone of its own, and else the move says
--- it.
+-- Each return is a case of `Growth`: a shut cone stays shut, the first edge is a cone of its own, else the move says it.
 use mathlib.Core.Path.{subst}
 use Prim.Native.Nat.{ℕ, _/_, _%_}
 use borrow.Author.Needs.{needs}

@@ -51,7 +51,8 @@ loop-again c =
     let start = at .before .before .before in
     let in-args = start .args in
     let inv = at .loop .inv in (
-      subst⁻¹ (λ (z : ℕ). Turning (in-args .parent .now) (in-args .u) z (in-args .work .now) (turned .turn-edge .last .0))
+      subst⁻¹ (λ (z : ℕ).
+          Turning (in-args .parent .now) (in-args .u) z (in-args .work .now) (turned .turn-edge .last .0))
           (c .get .ensures .0)
           (turning-step (start .pre .0 .tree) (start .pre .1) (test .loop-test .taken) (inv .0)
           (turned .turn-edge .ensures)),
