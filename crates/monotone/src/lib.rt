@@ -33,6 +33,14 @@ pub enum Verdict {
     Refused(u32, u32),
 }
 
+// The cone of a path with no edge, and of one that no half plane holds. Any other is the node of the clockwise side times
+// `SIDE` and the node of the other side; 0 stands for a cone that is not known yet.
+const EMPTY: usize = 1;
+
+const SHUT: usize = 2;
+
+const SIDE: usize = 65536;
+
 // A vector of the plane: a difference of two places.
 struct Vector {
     across: i64,
@@ -93,7 +101,7 @@ fn step(lo: Vector, hi: Vector, u: Vector) -> Move
     Move::Never
 }
 
-// A part of a vector, from the number that stands for it.
+// A part of a vector, from the number that stands for it: 2,147,483,648 stands for 0.
 fn part(work: &[u32], i: usize) -> i64
     requires { ⌜ (i < length (now work)) × (1 ≤ getD (now work) i 0) ⌝ }
     ensures { λ r. ⌜ (r ≡ partAt (now (work .entry)) i) × Small r ⌝ }
@@ -123,12 +131,12 @@ fn alone(z: usize, e: Vector) -> usize
     let across = e.across;
     let up = e.up;
     if across != 0 {
-        return z * 65536 + z;
+        return z * SIDE + z;
     }
     if up != 0 {
-        return z * 65536 + z;
+        return z * SIDE + z;
     }
-    2
+    SHUT
 }
 
 // The cone of a path with one edge more, that of node z.
@@ -136,22 +144,22 @@ fn grow(work: &[u32], n: usize, cone: usize, z: usize) -> usize
     requires { ⌜ Growing n (now work) cone z ⌝ }
     ensures { λ r. ⌜ Grown n (edgeAt n (now (work .entry))) cone z r ⌝ }
 {
-    if cone == 2 {
-        return 2;
+    if cone == SHUT {
+        return SHUT;
     }
     let e = edge(work, n, z);
-    if cone == 1 {
+    if cone == EMPTY {
         return alone(z, e);
     }
-    let low = cone / 65536;
-    let high = cone % 65536;
+    let low = cone / SIDE;
+    let high = cone % SIDE;
     let a = edge(work, n, low);
     let b = edge(work, n, high);
     match step(a, b, e) {
         Move::Keep => cone,
-        Move::High => low * 65536 + z,
-        Move::Low => z * 65536 + high,
-        Move::Never => 2,
+        Move::High => low * SIDE + z,
+        Move::Low => z * SIDE + high,
+        Move::Never => SHUT,
     }
 }
 
@@ -194,8 +202,8 @@ fn climb(parent: &[u32], work: &mut [u32], u: usize)
     ensures { λ _. ⌜ Climbed (now (parent .entry)) u (now (work .entry)) (now (work .exit)) ⌝ }
 {
     let n = parent.len();
-    put(work, u, 1);
-    let mut cone = 1;
+    put(work, u, EMPTY);
+    let mut cone = EMPTY;
     let mut z = u;
     while 0 < z {
         let p = get(parent, z);
@@ -251,7 +259,7 @@ fn pairs(parent: &[u32], work: &mut [u32]) -> Verdict
         cones(parent, work, u);
         let mut v = u + 1;
         while v < n {
-            if get(work, v) == 2 {
+            if get(work, v) == SHUT {
                 answer = Verdict::Turns(u as u32, v as u32);
                 break 'pairs;
             }
