@@ -1,5 +1,5 @@
--- The cones of the paths from u up to z: each known cone is that of the path to its node, and those of u and its ancestors
--- up to z are known. The edges below z are turned round, and no other can be a side of z's cone.
+-- The cones of the paths from u up to z: each known cone is that of the path to its node, and those of u and its
+-- ancestors up to z are known. The edges below z are turned round, and no other can be a side of z's cone.
 use mathlib.Core.Bool.{Bool, true, false, not, _&&_}
 use mathlib.Core.List.{List, [], _∷_}
 use mathlib.Core.Path.{_≡_, refl, sym, ap, subst, subst⁻¹, _∙_}
@@ -46,12 +46,14 @@ pub said-some : {P : List ℕ} {edge : ℕ → Vec} {u k v : ℕ} → Said P edg
 said-some s = holds-some (s .holds)
 
 module _ {P : List ℕ} {edge : ℕ → Vec} {u : ℕ} where
-  pub told-kept : {X Y : List ℕ} → ((v : ℕ) → v < length P → getD Y v 0 ≡ getD X v 0) → Told P edge u X → Told P edge u Y
+  pub told-kept : {X Y : List ℕ} → ((v : ℕ) → v < length P → getD Y v 0 ≡ getD X v 0)
+      → Told P edge u X → Told P edge u Y
   told-kept same t = record {
     said = λ v l some. subst⁻¹ (λ (k : ℕ). Said P edge u k v) (same v l) (t .said v l (λ z. some (same v l ∙ z)));
   }
 
-  pub told-store : {X Y : List ℕ} (v k : ℕ) → v < length X → Y ≡ set X v k → Said P edge u k v → Told P edge u X → Told P edge u Y
+  pub told-store : {X Y : List ℕ} (v k : ℕ) → v < length X → Y ≡ set X v k
+      → Said P edge u k v → Told P edge u X → Told P edge u Y
   told-store {X} {Y} v k b q s t = record {
     said = λ w l some. by-eq w v
         (λ e. subst⁻¹ (λ (i : ℕ). Said P edge u (getD Y i 0) i) e
@@ -83,7 +85,8 @@ pub record Climbing (P : List ℕ) (u z : ℕ) (W X : List ℕ) (k : ℕ) : Type
   pub only : Only 0 (3 * length P) W X
 
 module _ {P R : List ℕ} (T : Tree P R) {u : ℕ} (l : u < length P) where
-  pub climbing-start : (W : List ℕ) {X : List ℕ} → u < length W → Zeroed 0 (length P) W → X ≡ set W u 1 → Climbing P u u X X 1
+  pub climbing-start : (W : List ℕ) {X : List ℕ} → u < length W → Zeroed 0 (length P) W → X ≡ set W u 1
+      → Climbing P u u X X 1
   climbing-start W {X} long none q = record {
     turning = turning-start T l;
     here = store-here W u 1 long q;
@@ -103,7 +106,8 @@ part-same {at = at} {X = X} {A = A} t a y s l p q =
     ap (λ (k : ℕ). pos k -ℤ pos 2147483648)
     (let e : getD X (at + y) 0 ≡ getD A (at + y) 0 = omega (arith, t .turned y s l p q, a .turned y s l p) in e)
 
-module _ {P R : List ℕ} (T : Tree P R) {u : ℕ} (l : u < length P) {W : List ℕ} {z : ℕ} {X : List ℕ} {k : ℕ} (some : 0 < z)
+module _ {P R : List ℕ} (T : Tree P R) {u : ℕ} (l : u < length P) {W : List ℕ} {z : ℕ} {X : List ℕ} {k : ℕ}
+    (some : 0 < z)
     (c : Climbing P u z W X k) {B : List ℕ} (turned : EdgeTurned (length P) z X B) where
   abbrev p : ℕ
   p = parent P z
@@ -133,7 +137,8 @@ module _ {P R : List ℕ} (T : Tree P R) {u : ℕ} (l : u < length P) {W : List 
   passed-more : (y : ℕ) → passed P u z y ≡ true → passed P u p y ≡ true
   passed-more y t =
       let test : (under P y u ≡ true) × (not (under P y z) ≡ true) = both (under P y u) (not (under P y z)) t in
-      both-is (test .0) (ap not (false-of (λ a. differ (under-trans T y p z inside a (under-parent T z inside)) (not-true _ (test .1)))))
+      both-is (test .0) (ap not (false-of (λ a. differ
+      (under-trans T y p z inside a (under-parent T z inside)) (not-true _ (test .1)))))
 
   module _ (r : ℕ) (g : Grown (length P) (edgeAt (length P) B) k z r) where
     pub climbing-arrived : (A : List ℕ) → Away P u W A → Arrived P u p A r
@@ -146,7 +151,8 @@ module _ {P R : List ℕ} (T : Tree P R) {u : ℕ} (l : u < length P) {W : List 
               (side-turned A a z some inside passed-z)
               (holds-as (λ y s b t. (t, side-turned A a y s b t))
               (g .holds (passed P u p) passed-z (before .way)
-              (holds-as (λ y s b t. (passed-more y t, sym (side-turned A a y s b (passed-more y t)))) (before .holds))));
+              (holds-as (λ y s b t. (passed-more y t, sym (side-turned A a y s b (passed-more y t))))
+              (before .holds))));
         }
 
     said-p : (A : List ℕ) → Away P u W A → Said P (edgeAt (length P) A) u r p
@@ -181,7 +187,10 @@ pub climbing-end : {P R : List ℕ} → Tree P R → {u z : ℕ} {old W X : List
 climbing-end {P} T {u} {z} {old} {W} {X} {k} o h c =
     let a : Away P u W X = turning-end T h (c .turning) in
     record {
-      away = record { across = part (length P) (omega arith) (a .across); up = part (2 * length P) (omega arith) (a .up) };
+      away = record {
+        across = part (length P) (omega arith) (a .across);
+        up = part (2 * length P) (omega arith) (a .up);
+      };
       row = record {
         told = c .told X a;
         above = λ v b s. by-eq v z

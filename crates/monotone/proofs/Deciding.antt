@@ -1,5 +1,5 @@
--- What the cones of the paths from u say of a drawing: the pair (u, v) has no direction exactly where v's cone is 2. Then the
--- pairs that the loops have passed all have one.
+-- What the cones of the paths from u say of a drawing: the pair (u, v) has no direction exactly where v's cone is 2. So
+-- the pairs that the loops have passed all have one.
 use mathlib.Core.Bool.{Bool, true, false, cond}
 use mathlib.Core.List.{List, []}
 use mathlib.Core.Logic.{_⊎_, inl, inr, ⊎-elim}
@@ -20,7 +20,7 @@ use Rattle.monotone.specs.Monotone.{HasDirection, Before, AllDirected, F
 use Rattle.monotone.specs.Plane.{Vec, HasHalfPlane, cone-open}
 use Rattle.monotone.specs.Cones.{partAt, edgeAt, Holds, any, empty, shut, wide}
 use Rattle.monotone.specs.PathEdges.{OnPath, hop, away, has-direction, has-half-plane}
-use Rattle.monotone.specs.Rows.{TurnedPart, Said, Coned, DrawnPart, Drawn}
+use Rattle.monotone.specs.Rows.{TurnedPart, Away, Said, Coned, DrawnPart, Drawn}
 
 ------------------------------------------------------------------------
 -- Edges of a drawing
@@ -45,12 +45,18 @@ module _ {P c : List ℕ} {u at : ℕ} {W X : List ℕ} (drawn : DrawnPart P c a
       sub-same (getD X (at + z) 0) 2147483648 (getD c z 0) (getD c (parent P z) 0)
       (omega (arith, drawn .drawn z l, turned .same z l (λ _. a)))
 
-edge-away : {P x y : List ℕ} {u : ℕ} {W X : List ℕ} → Drawn P x y W → TurnedPart P u (length P) W X → TurnedPart P u (2 * length P) W X
+edge-away : {P x y : List ℕ} {u : ℕ} {W X : List ℕ} → Drawn P x y W → Away P u W X
     → (z : ℕ) → 0 < z → z < length P → edgeAt (length P) X z ≡ away P x y u z
 unfolding away
-edge-away {P} {x} {y} {u} {W} {X} d p q z s l = by-test (under P z u)
-    (λ a. rw a (λ i. record { across = part-up (d .across) p z s l a i; up = part-up (d .up) q z s l a i }))
-    (λ a. rw a (λ i. record { across = part-down (d .across) p z s l a i; up = part-down (d .up) q z s l a i }))
+edge-away {P} {u = u} d t z s l = by-test (under P z u)
+    (λ a. rw a (λ i. record {
+      across = part-up (d .across) (t .across) z s l a i;
+      up = part-up (d .up) (t .up) z s l a i;
+    }))
+    (λ a. rw a (λ i. record {
+      across = part-down (d .across) (t .across) z s l a i;
+      up = part-down (d .up) (t .up) z s l a i;
+    }))
 
 pub drawn-kept : {P x y W X : List ℕ} → Only 0 (length P) W X → Drawn P x y W → Drawn P x y X
 drawn-kept {P} {x} {y} {W} {X} o d = record {
@@ -64,7 +70,7 @@ drawn-kept {P} {x} {y} {W} {X} o d = record {
 module _ {P R : List ℕ} (T : Tree P R) {x y : List ℕ} {u : ℕ} (l : u < length P) {W X : List ℕ} (c : Coned P u W X)
     (d : Drawn P x y W) (v : ℕ) (m : v < length P) where
   edges : (z : ℕ) → 0 < z → z < length P → edgeAt (length P) (c .turned) z ≡ away P x y u z
-  edges = edge-away d (c .away .across) (c .away .up)
+  edges = edge-away d (c .away)
 
   pub directed : (getD X v 0 ≡ 2 → ⊥) → HasDirection P x y u v
   directed ne =
@@ -74,12 +80,14 @@ module _ {P R : List ℕ} (T : Tree P R) {x y : List ℕ} {u : ℕ} (l : u < len
       s = c .said v m
 
       opened : Holds (length P) any (edgeAt (length P) (c .turned)) (getD X v 0) (s .way) → HasHalfPlane (s .way)
-      opened (empty e n) = subst⁻¹ HasHalfPlane n (record { direction = record { across = pos 0; up = pos 0 }; ahead = tt })
+      opened (empty e n) = subst⁻¹ HasHalfPlane n
+          (record { direction = record { across = pos 0; up = pos 0 }; ahead = tt })
       opened (shut e f) = absurd (ne e)
       opened (wide p a b k) = cone-open k
 
   pub turns : getD X v 0 ≡ 2 → HasDirection P x y u v → ⊥
-  turns two h = closed (s .holds) (has-half-plane T x y (edgeAt (length P) (c .turned)) u v l m edges (s .way) (s .path) h)
+  turns two h = closed (s .holds)
+      (has-half-plane T x y (edgeAt (length P) (c .turned)) u v l m edges (s .way) (s .path) h)
     where
       s : Said P (edgeAt (length P) (c .turned)) u (getD X v 0) v
       s = c .said v m
@@ -120,7 +128,8 @@ module _ {P R : List ℕ} (T : Tree P R) {u v : ℕ} (l : u < length P) {W X Y :
   pub passed-row : length P ≤ v → Passed P W (u + 1) 0
   passed-row end = record {
     all = λ x y d a b h k. ⊎-elim
-        (λ i. before x y d a b h k (by-lt a u inl (λ j. inr (let e : a ≡ u = omega arith in e, let f : b < v = omega arith in f))))
+        (λ i. before x y d a b h k (by-lt a u inl
+        (λ j. inr (let e : a ≡ u = omega arith in e, let f : b < v = omega arith in f))))
         (λ i. absurd (omega arith));
   }
 
@@ -132,7 +141,8 @@ module _ {P R : List ℕ} (T : Tree P R) {u v : ℕ} (l : u < length P) {W X Y :
     earlier = before x y d;
   }
 
-pub all-passed : {P W : List ℕ} {u : ℕ} → length P ≤ u → Passed P W u 0 → (x y : List ℕ) → Drawn P x y W → AllDirected P x y
+pub all-passed : {P W : List ℕ} {u : ℕ} → length P ≤ u → Passed P W u 0
+    → (x y : List ℕ) → Drawn P x y W → AllDirected P x y
 all-passed end p x y d = record { directed = λ a b h k. p .all x y d a b h k (inl (omega arith)) }
 
 ------------------------------------------------------------------------

@@ -8,7 +8,7 @@ use lib.IntN.{ℤ, pos}
 use Rattle.monotone.specs.declared.Move.{Move}
 use Rattle.monotone.specs.declared.Move.the-variants.{Keep, High, Low, Never}
 use Rattle.monotone.specs.Plane.{Vec, Cone, HasHalfPlane, cone-first, zero-none, none-more}
-use Rattle.monotone.specs.Cones.{Moved, Pair, Holds, empty, shut, wide, Formed, Alone, none, one, Grown}
+use Rattle.monotone.specs.Cones.{edgeAt, Moved, Pair, Holds, empty, shut, wide, Formed, Alone, none, one, Growing, Grown}
 
 ------------------------------------------------------------------------
 -- Pairs
@@ -69,7 +69,19 @@ module _ {n : ℕ} {side : ℕ → Bool} {edge : ℕ → Vec} {k : ℕ} {us : Li
 ------------------------------------------------------------------------
 -- One edge more
 
-module _ (n : ℕ) (edge : ℕ → Vec) (k z : ℕ) (few : n ≤ 65536) (some : 0 < z) (inside : z < n) where
+module _ {n : ℕ} {W : List ℕ} {k z : ℕ} (g : Growing n W k z) where
+  abbrev edge : ℕ → Vec
+  edge = edgeAt n W
+
+  few : n ≤ 65536
+  few = g .edges .few
+
+  some : 0 < z
+  some = g .some
+
+  inside : z < n
+  inside = g .inside
+
   pub grow-shut : k ≡ 2 → Grown n edge k z 2
   grow-shut e = record { holds = λ side t. more side; formed = formed-two refl; fits = omega arith }
     where
@@ -83,36 +95,43 @@ module _ (n : ℕ) (edge : ℕ → Vec) (k z : ℕ) (few : n ≤ 65536) (some : 
       → (us : List Vec) → Cone (edge a) (edge b) us → Holds n side edge (a * 65536 + b) us
   packed side a b p q r s t u us c =
       wide (pair-of a b few p q r s)
-      (subst⁻¹ (λ (i : ℕ). side i ≡ true) (high-half a b (omega arith)) t)
-      (subst⁻¹ (λ (i : ℕ). side i ≡ true) (low-half a b (omega arith)) u)
-      (subst₂ (λ (i j : ℕ). Cone (edge i) (edge j) us) (sym (high-half a b (omega arith))) (sym (low-half a b (omega arith))) c)
+      (subst⁻¹ (λ (i : ℕ). side i ≡ true) low-is t)
+      (subst⁻¹ (λ (i : ℕ). side i ≡ true) high-is u)
+      (subst₂ (λ (i j : ℕ). Cone (edge i) (edge j) us) (sym low-is) (sym high-is) c)
+    where
+      low-is : (a * 65536 + b) / 65536 ≡ a
+      low-is = high-half a b (omega (arith, few))
+
+      high-is : (a * 65536 + b) % 65536 ≡ b
+      high-is = low-half a b (omega (arith, few))
 
   pub grow-first : {r : ℕ} → k ≡ 1 → Alone z (edge z) r → Grown n edge k z r
-  grow-first {r} e a = record { holds = λ side t. more side t a; formed = form a; fits = fit a }
+  grow-first {r} e first = record { holds = λ side t. more side t first; formed = form first; fits = fit first }
     where
       fit : Alone z (edge z) r → r < 4294967296
-      fit (none h g) = omega arith
-      fit (one h g) = omega arith
+      fit (none h q) = omega arith
+      fit (one h q) = omega (arith, few, inside)
 
       form : Alone z (edge z) r → Formed n r
-      form (none h g) = formed-two g
-      form (one h g) = subst⁻¹ (Formed n) g (formed-pair (pair-of z z few some inside some inside))
+      form (none h q) = formed-two q
+      form (one h q) = subst⁻¹ (Formed n) q (formed-pair (pair-of z z few some inside some inside))
 
       more : (side : ℕ → Bool) → side z ≡ true → Alone z (edge z) r → (us : List Vec)
           → Holds n side edge k us → Holds n side edge r (edge z ∷ us)
-      more side t (none h g) us s = shut g (zero-none (edge z) (h .0) (h .1))
-      more side t (one h g) us (empty f l) =
-          subst⁻¹ (λ (c : ℕ). Holds n side edge c (edge z ∷ us)) g
+      more side t (none h q) us s = shut q (zero-none (edge z) (h .0) (h .1))
+      more side t (one h q) us (empty f l) =
+          subst⁻¹ (λ (c : ℕ). Holds n side edge c (edge z ∷ us)) q
           (packed side z z some inside some inside t t (edge z ∷ us)
           (subst⁻¹ (λ (l : List Vec). Cone (edge z) (edge z) (edge z ∷ l)) l (cone-first (edge z) h)))
-      more side t (one h g) us (shut f _) = absurd (omega arith)
-      more side t (one h g) us (wide p _ _ _) = absurd (not-one p e)
+      more side t (one h q) us (shut f _) = absurd (omega arith)
+      more side t (one h q) us (wide p _ _ _) = absurd (not-one p e)
 
   module _ (m : Move) (moved : Moved (edge (k / 65536)) (edge (k % 65536)) (edge z) m) (pair : Pair n k) where
     -- only a pair has a move
     by-pair : {r : ℕ} → ((side : ℕ → Bool) → side z ≡ true → side (k / 65536) ≡ true → side (k % 65536) ≡ true
         → (us : List Vec) → Cone (edge (k / 65536)) (edge (k % 65536)) us → Holds n side edge r (edge z ∷ us))
-        → (side : ℕ → Bool) → side z ≡ true → (us : List Vec) → Holds n side edge k us → Holds n side edge r (edge z ∷ us)
+        → (side : ℕ → Bool) → side z ≡ true → (us : List Vec) → Holds n side edge k us
+        → Holds n side edge r (edge z ∷ us)
     by-pair f side t us (empty e _) = absurd (not-one pair e)
     by-pair f side t us (shut e _) = absurd (not-two pair e)
     by-pair f side t us (wide p a b c) = f side t a b us c
@@ -132,15 +151,16 @@ module _ (n : ℕ) (edge : ℕ → Vec) (k z : ℕ) (few : n ≤ 65536) (some : 
       holds = by-pair (λ side t a b us c.
           packed side (k / 65536) z (pair .low) (pair .low-in) some inside a t (edge z ∷ us) (move High e .after us c));
       formed = formed-pair (pair-of (k / 65536) z few (pair .low) (pair .low-in) some inside);
-      fits = omega (arith, pair .low-in);
+      fits = omega (arith, pair .low-in, few, inside);
     }
 
     pub grow-low : m ≡ Low → Grown n edge k z (z * 65536 + k % 65536)
     grow-low e = record {
       holds = by-pair (λ side t a b us c.
-          packed side z (k % 65536) some inside (pair .high) (pair .high-in) t b (edge z ∷ us) (move Low e .after us c));
+          packed side z (k % 65536) some inside (pair .high) (pair .high-in) t b
+          (edge z ∷ us) (move Low e .after us c));
       formed = formed-pair (pair-of z (k % 65536) few some inside (pair .high) (pair .high-in));
-      fits = omega arith;
+      fits = omega (arith, few, inside);
     }
 
     pub grow-never : m ≡ Never → Grown n edge k z 2

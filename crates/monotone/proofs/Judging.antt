@@ -55,7 +55,8 @@ module _ {P R x y W A B C : List ℕ} (j : Judged P R x y W) (numbered : Numbere
 
   node : (i : ℕ) → i < length P → getD C (3 * length P + i) 0 ≡ getD (order P R) i 0
   node i l =
-      y-only .above (3 * length P + i) (omega arith) ∙ x-only .above (3 * length P + i) (omega arith) ∙ numbered .node i l
+      y-only .above (3 * length P + i) (omega arith) ∙ x-only .above (3 * length P + i) (omega arith)
+      ∙ numbered .node i l
 
   pub ordered : Ordered P C
   ordered =
@@ -123,7 +124,9 @@ module _ (x y : List ℕ) {L : Limits} {P R : List ℕ} {long : Bool} {W X : Lis
       module _ (near : length P ≤ v) where
         no-fault : checkFault L P R x y (length W) ≡ none
         unfolding checkFault
-        no-fault = orElse-second _ _ accepted ∙ refuseLeast-no (L .beyond) (length P) (beyond (L .place) x y) v far-is near
+        no-fault =
+            orElse-second _ _ accepted
+            ∙ refuseLeast-no (L .beyond) (length P) (beyond (L .place) x y) v far-is near
 
         -- no refusal
         pub checked-found : {Y : List ℕ} (r : Verdict) → Found P x y r → Checked L P R x y W Y r
@@ -183,7 +186,8 @@ late k l h = ⊎-elim (λ e. omega arith) (⊎-elim h (λ e. omega arith))
 later-refusals : (P R x y : List ℕ) → Other (treeFault P R orElse refuseLeast 15 (length P) (beyond 2147483647 x y))
 unfolding treeFault
 later-refusals P R x y = other-orElse
-    (other-orElse (other-refuse (not (eqb (parent P 0) 0 && eqb (rank R 0) 0)) 4 0 (late 4 (omega arith) (λ e. omega arith)))
+    (other-orElse (other-refuse (not (eqb (parent P 0) 0 && eqb (rank R 0) 0)) 4 0
+    (late 4 (omega arith) (λ e. omega arith)))
     (other-orElse (other-least 5 (length P) (strayParent P) (late 5 (omega arith) (λ e. omega arith)))
     (other-orElse (other-least 6 (length P) (badRank P R) (late 6 (omega arith) (λ e. omega arith)))
     (other-least 7 (length P) (adrift P) (late 7 (omega arith) (λ e. omega arith))))))

@@ -53,10 +53,16 @@ pub record Offsetting (P c : List ℕ) (at z : ℕ) (W X : List ℕ) : Type 0 wh
   pub only : Only at (at + length P) W X
 
 pub offsetting-start : (P c : List ℕ) (at : ℕ) (W : List ℕ) → Offsetting P c at 0 W W
-offsetting-start P c at W = record { most = omega arith; drawn = λ w l. absurd (omega arith); only = only-refl at (at + length P) W }
+offsetting-start P c at W = record {
+  most = omega arith;
+  drawn = λ w l. absurd (omega arith);
+  only = only-refl at (at + length P) W;
+}
 
-module _ {P c : List ℕ} (k : Coordinate P c) {at z : ℕ} {W X : List ℕ} (room : at + length P ≤ length W) (l : z < length P) where
-  pub offsetting-step : {Y : List ℕ} → Offsetting P c at z W X → Y ≡ set X (at + z) (getD c z 0 + 2147483648 - getD c (parent P z) 0)
+module _ {P c : List ℕ} (k : Coordinate P c) {at z : ℕ} {W X : List ℕ}
+    (room : at + length P ≤ length W) (l : z < length P) where
+  pub offsetting-step : {Y : List ℕ} → Offsetting P c at z W X
+      → Y ≡ set X (at + z) (getD c z 0 + 2147483648 - getD c (parent P z) 0)
       → Offsetting P c at (z + 1) W Y
   offsetting-step {Y} o q = record {
     most = omega arith;
@@ -73,7 +79,8 @@ module _ {P c : List ℕ} (k : Coordinate P c) {at z : ℕ} {W X : List ℕ} (ro
         k .within (parent P z) (k .inside z l),
       )
 
-pub offsetting-end : {P c : List ℕ} {at z : ℕ} {W X : List ℕ} → length P ≤ z → Offsetting P c at z W X → DrawnPart P c at X
+pub offsetting-end : {P c : List ℕ} {at z : ℕ} {W X : List ℕ} → length P ≤ z
+    → Offsetting P c at z W X → DrawnPart P c at X
 offsetting-end h o = record { drawn = λ w l. o .drawn w (omega arith) }
 
 -- the parts are small

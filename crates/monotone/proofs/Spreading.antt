@@ -1,5 +1,5 @@
--- The cones of the paths from u down to every node: in the order from the last place down to the first a parent comes before
--- its children, so its cone is known. Edges that are turned round twice are as they were.
+-- The cones of the paths from u down to every node: in the order from the last place down to the first a parent comes
+-- before its children, so its cone is known. Edges that are turned round twice are as they were.
 use mathlib.Core.Bool.{true, false}
 use mathlib.Core.List.{List, _∷_}
 use mathlib.Core.Path.{_≡_, refl, sym, ap, subst, subst⁻¹, _∙_}
@@ -37,7 +37,8 @@ ordered-kept {P} {W} {X} same o = record {
 pub edges-stay : {P W X : List ℕ} → Only 0 (length P) W X → WithEdges P W → WithEdges P X
 edges-stay o r = record { ranks = r .ranks; tree = r .tree; edges = edges-kept o (r .edges) }
 
-pub edges-away : {P : List ℕ} {u : ℕ} {W X : List ℕ} → Away P u W X → length X ≡ length W → WithEdges P W → WithEdges P X
+pub edges-away : {P : List ℕ} {u : ℕ} {W X : List ℕ} → Away P u W X → length X ≡ length W
+    → WithEdges P W → WithEdges P X
 edges-away {P} {u} {W} {X} t long r = record {
   ranks = r .ranks;
   tree = r .tree;
@@ -49,9 +50,13 @@ edges-away {P} {u} {W} {X} t long r = record {
   };
 }
   where
-    part : (at : ℕ) → TurnedPart P u at W X → (z : ℕ) → 0 < z → z < length P → Part (getD W (at + z) 0) → Part (getD X (at + z) 0)
+    part : (at : ℕ) → TurnedPart P u at W X → (z : ℕ) → 0 < z → z < length P
+        → Part (getD W (at + z) 0) → Part (getD X (at + z) 0)
     part at p z s l q = by-test (under P z u)
-        (λ a. record { least = omega (arith, p .turned z s l a, q .most); most = omega (arith, p .turned z s l a, q .least) })
+        (λ a. record {
+          least = omega (arith, p .turned z s l a, q .most);
+          most = omega (arith, p .turned z s l a, q .least);
+        })
         (λ a. subst⁻¹ Part (p .same z l (λ _. a)) q)
 
 ------------------------------------------------------------------------
@@ -64,7 +69,8 @@ pub record Spreading (P : List ℕ) (u j : ℕ) (W X : List ℕ) : Type 0 where
   pub done : (v : ℕ) → v < length P → j < order .number v → getD X v 0 ≡ 0 → ⊥
   pub only : Only 0 (length P) W X
 
-pub spreading-start : {P : List ℕ} {u : ℕ} {W : List ℕ} → Ordered P W → Row P (edgeAt (length P) W) u W → Spreading P u (length P) W W
+pub spreading-start : {P : List ℕ} {u : ℕ} {W : List ℕ} → Ordered P W
+    → Row P (edgeAt (length P) W) u W → Spreading P u (length P) W W
 spreading-start {P} {u} {W} o r = record {
   few = omega arith;
   order = o;
@@ -74,7 +80,8 @@ spreading-start {P} {u} {W} o r = record {
 }
 
 -- at the place before j
-module _ {P R : List ℕ} (T : Tree P R) {u : ℕ} (l : u < length P) {W : List ℕ} (edges : Edges (length P) W) {j : ℕ} {X : List ℕ}
+module _ {P R : List ℕ} (T : Tree P R) {u : ℕ} (l : u < length P) {W : List ℕ} (edges : Edges (length P) W)
+    {j : ℕ} {X : List ℕ}
     (some : 0 < j) (s : Spreading P u j W X) where
   abbrev node : ℕ
   node = getD X (3 * length P + (j - 1)) 0
@@ -100,7 +107,8 @@ module _ {P R : List ℕ} (T : Tree P R) {u : ℕ} (l : u < length P) {W : List 
   parent-said : getD X node 0 ≡ 0 → Said P (edgeAt (length P) W) u (getD X (parent P node) 0) (parent P node)
   parent-said e =
       s .row .told .said (parent P node) (T .inside node node-in)
-      (s .done (parent P node) (T .inside node node-in) (omega (arith, node-number, s .order .later node (node-some e) node-in)))
+      (s .done (parent P node) (T .inside node node-in)
+      (omega (arith, node-number, s .order .later node (node-some e) node-in)))
 
   pub spreading-reached : Reached P X node
   spreading-reached = record {
@@ -140,7 +148,8 @@ module _ {P R : List ℕ} (T : Tree P R) {u : ℕ} (l : u < length P) {W : List 
       next : Said P (edgeAt (length P) W) u r node
       next = record {
         way = edgeAt (length P) W node ∷ parent-said e .way;
-        path = path-down T (edgeAt (length P) W) u l node (parent-said e .way) node-in (not-above e) (parent-said e .path);
+        path = path-down T (edgeAt (length P) W) u l node (parent-said e .way) node-in
+            (not-above e) (parent-said e .path);
         holds = subst (λ (f : ℕ → Vec). Grown (length P) f (getD X (parent P node) 0) node r) (vectors-kept (s .only)) g
             .holds any refl (parent-said e .way) (parent-said e .holds);
       }
@@ -155,10 +164,12 @@ module _ {P R : List ℕ} (T : Tree P R) {u : ℕ} (l : u < length P) {W : List 
 -- From the entry to the end
 
 -- a list that agrees beyond the first region has the same parts turned
-part-between : {P : List ℕ} {u at : ℕ} {W A B X : List ℕ} → length P ≤ at → Only 0 (length P) W A → TurnedPart P u at A B
+part-between : {P : List ℕ} {u at : ℕ} {W A B X : List ℕ} → length P ≤ at
+    → Only 0 (length P) W A → TurnedPart P u at A B
     → Only 0 (length P) B X → TurnedPart P u at W X
 part-between {P} {u} {at} {W} {A} {B} {X} h o t p = record {
-  turned = λ z s l a. omega (arith, o .above (at + z) (omega arith), p .above (at + z) (omega arith), t .turned z s l a);
+  turned = λ z s l a.
+      omega (arith, o .above (at + z) (omega arith), p .above (at + z) (omega arith), t .turned z s l a);
   same = λ z l f. p .above (at + z) (omega arith) ∙ t .same z l f ∙ o .above (at + z) (omega arith);
 }
 

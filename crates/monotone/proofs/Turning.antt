@@ -21,26 +21,33 @@ use Rattle.monotone.proofs.Stores.{store-here, store-else}
 pub record TurningPart (P : List ℕ) (u z at : ℕ) (W X : List ℕ) : Type 0 where
   pub turned : (y : ℕ) → 0 < y → y < length P → under P y u ≡ true → under P y z ≡ false
       → getD X (at + y) 0 + getD W (at + y) 0 ≡ 4294967296
-  pub same : (y : ℕ) → y < length P → (0 < y → under P y u ≡ true → under P y z ≡ true) → getD X (at + y) 0 ≡ getD W (at + y) 0
+  pub same : (y : ℕ) → y < length P → (0 < y → under P y u ≡ true → under P y z ≡ true)
+      → getD X (at + y) 0 ≡ getD W (at + y) 0
 
 -- the number of z is turned round, and those of the others stay
 record Flipped (P : List ℕ) (z at : ℕ) (X Y : List ℕ) : Type 0 where
   here : getD Y (at + z) 0 + getD X (at + z) 0 ≡ 4294967296
   others : (y : ℕ) → y < length P → (y ≡ z → ⊥) → getD Y (at + y) 0 ≡ getD X (at + y) 0
 
-module _ {P R : List ℕ} (T : Tree P R) {u z at : ℕ} {W X : List ℕ} (some : 0 < z) (inside : z < length P) (above : under P z u ≡ true) where
+module _ {P R : List ℕ} (T : Tree P R) {u z at : ℕ} {W X : List ℕ} (some : 0 < z)
+    (inside : z < length P) (above : under P z u ≡ true) where
   part-step : {Y : List ℕ} → TurningPart P u z at W X → Flipped P z at X Y → TurningPart P u (parent P z) at W Y
   part-step {Y} t f = record {
     turned = λ y p l s b. by-eq y z
         (λ e. subst⁻¹ (λ (i : ℕ). getD Y (at + i) 0 + getD W (at + i) 0 ≡ 4294967296) e
         (omega (arith, f .here, t .same z inside (λ p s. under-refl T z inside))))
-        (λ ne. omega (arith, f .others y l ne, t .turned y p l s
-        (false-of (λ c. differ (under-on T y z inside c (λ e. ne (sym e))) b))));
+        (λ ne. omega (
+          arith,
+          f .others y l ne,
+          t .turned y p l s
+              (false-of (λ c. differ (under-on T y z inside c (λ e. ne (sym e))) b)),
+        ));
     same = λ y l h. by-eq y z
         (λ e. absurd (differ (subst (λ (i : ℕ). under P i (parent P z) ≡ true) e
         (h (subst⁻¹ (λ (i : ℕ). 0 < i) e some) (subst⁻¹ (λ (i : ℕ). under P i u ≡ true) e above)))
         (child-below T z some inside)))
-        (λ ne. f .others y l ne ∙ t .same y l (λ p s. under-trans T y (parent P z) z inside (h p s) (under-parent T z inside)));
+        (λ ne. f .others y l ne ∙ t .same y l
+        (λ p s. under-trans T y (parent P z) z inside (h p s) (under-parent T z inside)));
   }
 
 ------------------------------------------------------------------------
@@ -89,7 +96,12 @@ module _ (n z : ℕ) (some : 0 < z) (inside : z < n) {W : List ℕ} (edges : Edg
 
 module _ {P R : List ℕ} (T : Tree P R) {u : ℕ} (l : u < length P) {W : List ℕ} where
   pub turning-start : Turning P u u W W
-  turning-start = record { inside = l; above = under-refl T u l; across = none-yet (length P); up = none-yet (2 * length P) }
+  turning-start = record {
+    inside = l;
+    above = under-refl T u l;
+    across = none-yet (length P);
+    up = none-yet (2 * length P);
+  }
     where
       none-yet : (at : ℕ) → TurningPart P u u at W W
       none-yet at = record { turned = λ y p l s b. absurd (differ s b); same = λ y l h. refl }
@@ -110,7 +122,8 @@ module _ {P R : List ℕ} (T : Tree P R) {u : ℕ} (l : u < length P) {W : List 
     }
 
 -- the edges stay small
-pub turning-edges : {P : List ℕ} {u z : ℕ} {W X : List ℕ} → Turning P u z W X → length X ≡ length W → Edges (length P) W → Edges (length P) X
+pub turning-edges : {P : List ℕ} {u z : ℕ} {W X : List ℕ} → Turning P u z W X
+    → length X ≡ length W → Edges (length P) W → Edges (length P) X
 turning-edges {P} {u} {z} {W} {X} t long e = record {
   few = e .few;
   long = long ∙ e .long;
@@ -118,11 +131,15 @@ turning-edges {P} {u} {z} {W} {X} t long e = record {
   up = λ y s l. part (2 * length P) (t .up) y s l (e .up y s l);
 }
   where
-    part : (at : ℕ) → TurningPart P u z at W X → (y : ℕ) → 0 < y → y < length P → Part (getD W (at + y) 0) → Part (getD X (at + y) 0)
+    part : (at : ℕ) → TurningPart P u z at W X → (y : ℕ) → 0 < y → y < length P
+        → Part (getD W (at + y) 0) → Part (getD X (at + y) 0)
     part at p y s l q = by-test (under P y u)
         (λ a. by-test (under P y z)
         (λ b. subst⁻¹ Part (p .same y l (λ _ _. b)) q)
-        (λ b. record { least = omega (arith, p .turned y s l a b, q .most); most = omega (arith, p .turned y s l a b, q .least) }))
+        (λ b. record {
+          least = omega (arith, p .turned y s l a b, q .most);
+          most = omega (arith, p .turned y s l a b, q .least);
+        }))
         (λ a. subst⁻¹ Part (p .same y l (λ _ b. absurd (differ b a))) q)
 
 pub edge-only : {n z : ℕ} {X Y : List ℕ} → z < n → EdgeTurned n z X Y → Only n (3 * n) X Y

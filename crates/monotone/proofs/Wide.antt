@@ -1,5 +1,5 @@
--- Parts of vectors and products of two of them fit 64 bits, and are what the machine computes. A signed local holds bits,
--- so an operand is read back from them, `toZ w64 (ofZ w64 a)`.
+-- Parts of vectors and products of two of them fit 64 bits, and are what the machine computes. A signed local holds
+-- bits, so an operand is read back from them, `toZ w64 (ofZ w64 a)`.
 use mathlib.Core.Path.{_≡_, refl, _∙_, ap, ap₂, subst, subst⁻¹}
 use mathlib.Core.Bool.{Bool, true, false, not, cond}
 use Prim.Native.Nat.{ℕ, zero, suc, _+_, _*_, _-_, _^_, _≤_, _<_}

@@ -1,5 +1,5 @@
--- Cones in the work list, which is four regions of n numbers: the cone of each node, the part across and the part up of its
--- edge, and the post-order. What the contracts of the inner functions cite.
+-- Cones in the work list, which is four regions of n numbers: the cone of each node, the part across and the part up of
+-- its edge, and the post-order. What the contracts of the inner functions cite.
 --
 --   vec u                 == a vector of the code as a vector of the plane
 --   Small z               == a difference of two places of 0 to 2,147,483,647
@@ -10,11 +10,12 @@
 --   edgeAt n W z          == the vector of the edge of node z
 --   Edges n W             == the nodes from 1 on have edges with small parts
 --   Pair n k              == k is a cone of two edges: the one clockwise of the other times 65,536, and that other
---   Holds n side edge ..  == k stands for the vectors us: 1 for none, 2 where no half plane holds them, or the pair of their
---                            cone, whose two edges pass the test `side`
+--   Holds n side edge ..  == k stands for the vectors us: 1 for none, 2 where no half plane holds them, or the pair of
+--                            their cone, whose two edges pass the test `side`
 --   any                   == every edge may be a side
 --   Formed n k            == k is 1, 2 or a pair
 --   Alone z e r           == r stands for one vector, the edge e of z
+--   Growing n W k z       == k is a cone, to which the edge of z is to be added
 --   Grown n edge k z r    == r stands for one vector more than k, the edge of z
 use mathlib.Core.Bool.{Bool, true}
 use mathlib.Core.List.{List, [], _∷_}
@@ -96,7 +97,14 @@ pub data Alone (z : ℕ) (e : Vec) (r : ℕ) : Type 0 where
   none : (e .across ≡ pos 0) × (e .up ≡ pos 0) → r ≡ 2 → Alone z e r
   one : ((e .across ≡ pos 0) × (e .up ≡ pos 0) → ⊥) → r ≡ z * 65536 + z → Alone z e r
 
+pub record Growing (n : ℕ) (W : List ℕ) (k z : ℕ) : Type 0 where
+  pub edges : Edges n W
+  pub some : 0 < z
+  pub inside : z < n
+  pub formed : Formed n k
+
 pub record Grown (n : ℕ) (edge : ℕ → Vec) (k z r : ℕ) : Type 0 where
-  pub holds : (side : ℕ → Bool) → side z ≡ true → (us : List Vec) → Holds n side edge k us → Holds n side edge r (edge z ∷ us)
+  pub holds : (side : ℕ → Bool) → side z ≡ true → (us : List Vec)
+      → Holds n side edge k us → Holds n side edge r (edge z ∷ us)
   pub formed : Formed n r
   pub fits : r < 4294967296

@@ -1,5 +1,5 @@
--- The check by computation: a function that meets the meaning of the check on all inputs, so that the meaning has an answer,
--- and exactly one. It takes every pair's path by itself.
+-- The check by computation: a function that meets the meaning of the check on all inputs, so that the meaning has an
+-- answer, and exactly one. It takes every pair's path by itself.
 --
 --   Span                    == no vector, the two sides of a cone, or vectors that no half plane holds
 --   widen s u, span us      == a span with one vector more, and that of a list
@@ -97,7 +97,8 @@ widen-of (between lo hi) u us c = by-test (ltZ (pos 0) (cross lo u))
     (λ s. rw s (against-high u c (least-is p) (less s)))
     (λ s. rw s (by-test (ltZ (pos 0) (dot lo u))
     (λ t. rw t (keep-along u c (≤≥ _ (least-is p) (least-is r)) (≤≥ _ (least-is q) (least-is s)) (less t)))
-    (λ t. rw t (against-along u c (≤≥ _ (least-is p) (least-is r)) (≤≥ _ (least-is q) (least-is s)) (least-is t)))))))))))
+    (λ t. rw t (against-along u c (≤≥ _ (least-is p) (least-is r)) (≤≥ _ (least-is q) (least-is s))
+    (least-is t)))))))))))
 
 pub span-of : (us : List Vec) → SpanOf (span us) us
 unfolding span
@@ -148,7 +149,8 @@ module _ (P x y : List ℕ) (d : Vec) where
       let r = up-all k u us (a .1) in
       (one-more (λ i. Ahead d (hop x y (climb P i u) (climb P (suc i) u))) k (r .0) (a .0), r .1)
 
-  all-up : (k u : ℕ) (us : List Vec) → ((i : ℕ) → i < k → Ahead d (hop x y (climb P i u) (climb P (suc i) u))) → AllAhead d us
+  all-up : (k u : ℕ) (us : List Vec) → ((i : ℕ) → i < k → Ahead d (hop x y (climb P i u) (climb P (suc i) u)))
+      → AllAhead d us
       → AllAhead d (upward P x y k u us)
   unfolding upward
   all-up zero u us f a = a
@@ -161,7 +163,8 @@ module _ (P x y : List ℕ) (d : Vec) where
   down-all (suc k) v us a =
       one-more (λ j. Ahead d (hop x y (climb P (suc j) v) (climb P j v))) k (down-all k v us (a .1)) (a .0)
 
-  all-down : (k v : ℕ) (us : List Vec) → ((j : ℕ) → j < k → Ahead d (hop x y (climb P (suc j) v) (climb P j v))) → AllAhead d us
+  all-down : (k v : ℕ) (us : List Vec) → ((j : ℕ) → j < k → Ahead d (hop x y (climb P (suc j) v) (climb P j v)))
+      → AllAhead d us
       → AllAhead d (downward P x y k v us)
   unfolding downward
   all-down zero v us f a = a
@@ -188,7 +191,8 @@ module _ (P x y : List ℕ) (u v : ℕ) where
       let d : Vec = record { across = h .d; up = h .e } in
       record {
         direction = d;
-        ahead = all-up P x y d (rise P u v) u (downward P x y (rise P v u) v []) (λ i l. h .rises .going-up i l .above-0)
+        ahead = all-up P x y d (rise P u v) u (downward P x y (rise P v u) v [])
+            (λ i l. h .rises .going-up i l .above-0)
             (all-down P x y d (rise P v u) v [] (λ j l. h .rises .going-down j l .above-0) tt);
       }
 
@@ -220,7 +224,8 @@ module _ (P x y : List ℕ) where
   unfolding turnsAt
   turns-none u v t =
       let b = both (ltb u v) _ t in
-      (ltb-true u v (b .0), λ h. never-none (span (pathVectors P x y u v)) _ (span-of (pathVectors P x y u v)) (b .1) (has-half-plane P x y u v h))
+      let us = pathVectors P x y u v in
+      (ltb-true u v (b .0), λ h. never-none (span us) us (span-of us) (b .1) (has-half-plane P x y u v h))
 
   else-directed : (u v : ℕ) → u < v → turnsAt P x y u v ≡ false → HasDirection P x y u v
   unfolding turnsAt
@@ -252,10 +257,14 @@ module _ (P x y : List ℕ) where
   unfolding Says
   found-right L R work ok = by-test (ltb (firstNode P x y) (length P))
       (λ t. rw t (ok, first-turn (ltb-true _ _ t)))
-      (λ t. rw t (ok, record {
-        directed = λ u v l k.
-            let all : length P ≤ firstNode P x y = ltb-false (firstNode P x y) (length P) t in row-directed u v (omega arith) l k;
-      }))
+      (λ t. rw t (
+        ok,
+        record {
+          directed = λ u v l k.
+              let all : length P ≤ firstNode P x y = ltb-false (firstNode P x y) (length P) t in
+              row-directed u v (omega arith) l k;
+        },
+      ))
     where
       first-turn : firstNode P x y < length P → FirstTurn P x y (firstNode P x y) (secondNode P x y (firstNode P x y))
       first-turn l =
@@ -268,13 +277,15 @@ module _ (P x y : List ℕ) where
             inside = k;
             turns = t .1;
             earlier = λ a b h i. ⊎-elim (λ e. row-directed a b e h i)
-                (λ e. subst⁻¹ (λ (c : ℕ). HasDirection P x y c b) (e .0) (before u b (subst (λ (c : ℕ). c < b) (e .0) h) (e .1)));
+                (λ e. subst⁻¹ (λ (c : ℕ). HasDirection P x y c b) (e .0)
+                (before u b (subst (λ (c : ℕ). c < b) (e .0) h) (e .1)));
           }
 
 pub decide-says : (L : Limits) (P R x y : List ℕ) (work : ℕ) → Says L P R x y work (decide L P R x y work)
 unfolding decide Says
 decide-says L P R x y work = by (checkFault L P R x y work) refl
   where
-    by : (o : Option Refusal) → checkFault L P R x y work ≡ o → Says L P R x y work (answer o (found P x y (firstNode P x y)))
+    by : (o : Option Refusal) → checkFault L P R x y work ≡ o
+        → Says L P R x y work (answer o (found P x y (firstNode P x y)))
     by none e = found-right P x y L R work e
     by (some f) e = e

@@ -1,7 +1,9 @@
--- Document 01's examples of the check, and points that are easy to get wrong, computed: one table of cases, one theorem.
+-- Document 01's examples of the check, and points that are easy to get wrong, computed: one table of cases, one
+-- theorem.
 use mathlib.Core.List.{List, [], _∷_, map}
 use mathlib.Core.Path.{_≡_, refl}
-use Prim.Native.Nat.{ℕ}
+use Prim.Native.Nat.{ℕ, _*_}
+use lib.ListN.{length}
 use Rattle.laws.specs.Search.{count, least}
 use Rattle.table.specs.Table.{climb, leads, isChild, children, isChildAt, under, rise, strayParent, badRank, adrift, allLong, shapeFault, treeFault, tableFault, checked}
 use Rattle.monotone.specs.declared.Verdict.{Verdict}
@@ -24,31 +26,35 @@ unfolding count least climb leads isChild children isChildAt under rise strayPar
     widen span upward downward pathVectors turnsAt secondNode firstNode decide
 decided c = decide checked (c .parents) (c .ranks) (c .x) (c .y) (c .work)
 
+-- a table with its places, and a work list of 4n
+abbrev drawing : List ℕ → List ℕ → List ℕ → List ℕ → Verdict → Case
+drawing P R x y r = record { parents = P; ranks = R; x = x; y = y; work = 4 * length P; answer = r }
+
 unfoldable pub cases : List Case
 cases =
     -- the chain that turns, and the straight one
-    record { parents = 0 ∷ 0 ∷ 1 ∷ 2 ∷ []; ranks = 0 ∷ 0 ∷ 0 ∷ 0 ∷ []; x = 0 ∷ 1 ∷ 1 ∷ 0 ∷ []; y = 0 ∷ 0 ∷ 1 ∷ 1 ∷ []; work = 16; answer = Turns 0 3 }
-    ∷ record { parents = 0 ∷ 0 ∷ 1 ∷ []; ranks = 0 ∷ 0 ∷ 0 ∷ []; x = 0 ∷ 1 ∷ 2 ∷ []; y = 0 ∷ 0 ∷ 0 ∷ []; work = 12; answer = Monotone }
+    drawing (0 ∷ 0 ∷ 1 ∷ 2 ∷ []) (0 ∷ 0 ∷ 0 ∷ 0 ∷ []) (0 ∷ 1 ∷ 1 ∷ 0 ∷ []) (0 ∷ 0 ∷ 1 ∷ 1 ∷ []) (Turns 0 3)
+    ∷ drawing (0 ∷ 0 ∷ 1 ∷ []) (0 ∷ 0 ∷ 0 ∷ []) (0 ∷ 1 ∷ 2 ∷ []) (0 ∷ 0 ∷ 0 ∷ []) Monotone
     -- two lots at one place; one lot alone
-    ∷ record { parents = 0 ∷ 0 ∷ []; ranks = 0 ∷ 0 ∷ []; x = 0 ∷ 0 ∷ []; y = 0 ∷ 0 ∷ []; work = 8; answer = Turns 0 1 }
-    ∷ record { parents = 0 ∷ []; ranks = 0 ∷ []; x = 5 ∷ []; y = 7 ∷ []; work = 4; answer = Monotone }
+    ∷ drawing (0 ∷ 0 ∷ []) (0 ∷ 0 ∷ []) (0 ∷ 0 ∷ []) (0 ∷ 0 ∷ []) (Turns 0 1)
+    ∷ drawing (0 ∷ []) (0 ∷ []) (5 ∷ []) (7 ∷ []) Monotone
     -- there and back: the edges are opposite
-    ∷ record { parents = 0 ∷ 0 ∷ 1 ∷ []; ranks = 0 ∷ 0 ∷ 0 ∷ []; x = 0 ∷ 2 ∷ 1 ∷ []; y = 0 ∷ 4 ∷ 2 ∷ []; work = 12; answer = Turns 0 2 }
+    ∷ drawing (0 ∷ 0 ∷ 1 ∷ []) (0 ∷ 0 ∷ 0 ∷ []) (0 ∷ 2 ∷ 1 ∷ []) (0 ∷ 4 ∷ 2 ∷ []) (Turns 0 2)
     -- a parent above its child
-    ∷ record { parents = 0 ∷ 2 ∷ 0 ∷ []; ranks = 0 ∷ 0 ∷ 0 ∷ []; x = 0 ∷ 0 ∷ 1 ∷ []; y = 0 ∷ 0 ∷ 0 ∷ []; work = 12; answer = Turns 0 1 }
+    ∷ drawing (0 ∷ 2 ∷ 0 ∷ []) (0 ∷ 0 ∷ 0 ∷ []) (0 ∷ 0 ∷ 1 ∷ []) (0 ∷ 0 ∷ 0 ∷ []) (Turns 0 1)
     -- (0, 3) comes before (1, 2)
-    ∷ record { parents = 0 ∷ 0 ∷ 0 ∷ 0 ∷ []; ranks = 0 ∷ 0 ∷ 1 ∷ 2 ∷ []; x = 0 ∷ 1 ∷ 2 ∷ 0 ∷ []; y = 0 ∷ 0 ∷ 0 ∷ 0 ∷ []; work = 16; answer = Turns 0 3 }
+    ∷ drawing (0 ∷ 0 ∷ 0 ∷ 0 ∷ []) (0 ∷ 0 ∷ 1 ∷ 2 ∷ []) (0 ∷ 1 ∷ 2 ∷ 0 ∷ []) (0 ∷ 0 ∷ 0 ∷ 0 ∷ []) (Turns 0 3)
     -- half a turn is no open half plane, and less than half a turn is one
-    ∷ record { parents = 0 ∷ 0 ∷ 0 ∷ []; ranks = 0 ∷ 0 ∷ 1 ∷ []; x = 3 ∷ 4 ∷ 5 ∷ []; y = 0 ∷ 0 ∷ 0 ∷ []; work = 12; answer = Turns 1 2 }
-    ∷ record { parents = 0 ∷ 0 ∷ 0 ∷ []; ranks = 0 ∷ 0 ∷ 1 ∷ []; x = 3 ∷ 4 ∷ 5 ∷ []; y = 0 ∷ 0 ∷ 1 ∷ []; work = 12; answer = Monotone }
+    ∷ drawing (0 ∷ 0 ∷ 0 ∷ []) (0 ∷ 0 ∷ 1 ∷ []) (3 ∷ 4 ∷ 5 ∷ []) (0 ∷ 0 ∷ 0 ∷ []) (Turns 1 2)
+    ∷ drawing (0 ∷ 0 ∷ 0 ∷ []) (0 ∷ 0 ∷ 1 ∷ []) (3 ∷ 4 ∷ 5 ∷ []) (0 ∷ 0 ∷ 1 ∷ []) Monotone
     -- no lot; a list or the work list of another length
-    ∷ record { parents = []; ranks = []; x = []; y = []; work = 0; answer = Refused 1 0 }
-    ∷ record { parents = 0 ∷ 0 ∷ []; ranks = 0 ∷ 0 ∷ []; x = 0 ∷ 1 ∷ []; y = 0 ∷ []; work = 8; answer = Refused 3 0 }
-    ∷ record { parents = 0 ∷ 0 ∷ []; ranks = 0 ∷ 0 ∷ []; x = 0 ∷ 1 ∷ []; y = 0 ∷ 0 ∷ []; work = 7; answer = Refused 3 0 }
-    -- the smallest lot beyond the limit, and 7 before 15
-    ∷ record { parents = 0 ∷ 0 ∷ 0 ∷ []; ranks = 0 ∷ 0 ∷ 1 ∷ []; x = 0 ∷ 0 ∷ 2147483648 ∷ []; y = 0 ∷ 2147483648 ∷ 0 ∷ []; work = 12; answer = Refused 15 1 }
-    ∷ record { parents = 0 ∷ 0 ∷ []; ranks = 0 ∷ 0 ∷ []; x = 0 ∷ 2147483647 ∷ []; y = 0 ∷ 2147483647 ∷ []; work = 8; answer = Monotone }
-    ∷ record { parents = 0 ∷ 2 ∷ 1 ∷ []; ranks = 0 ∷ 0 ∷ 0 ∷ []; x = 2147483648 ∷ 0 ∷ 0 ∷ []; y = 0 ∷ 0 ∷ 0 ∷ []; work = 12; answer = Refused 7 1 }
+    ∷ drawing [] [] [] [] (Refused 1 0)
+    ∷ drawing (0 ∷ 0 ∷ []) (0 ∷ 0 ∷ []) (0 ∷ 1 ∷ []) (0 ∷ []) (Refused 3 0)
+    ∷ record { parents = 0 ∷ []; ranks = 0 ∷ []; x = 0 ∷ []; y = 0 ∷ []; work = 5; answer = Refused 3 0 }
+    -- the largest place; the smallest lot beyond it; 7 before 15
+    ∷ drawing (0 ∷ 0 ∷ []) (0 ∷ 0 ∷ []) (0 ∷ 2147483647 ∷ []) (0 ∷ 2147483647 ∷ []) Monotone
+    ∷ drawing (0 ∷ 0 ∷ 0 ∷ []) (0 ∷ 0 ∷ 1 ∷ []) (0 ∷ 0 ∷ 2147483648 ∷ []) (0 ∷ 2147483648 ∷ 0 ∷ []) (Refused 15 1)
+    ∷ drawing (0 ∷ 2 ∷ 1 ∷ []) (0 ∷ 0 ∷ 0 ∷ []) (2147483648 ∷ 0 ∷ 0 ∷ []) (0 ∷ 0 ∷ 0 ∷ []) (Refused 7 1)
     ∷ []
 
 pub cases-right : map decided cases ≡ map (λ (c : Case). c .answer) cases
@@ -56,7 +62,8 @@ unfolding decided cases
 cases-right = refl
 
 -- and so of whatever the check says
-pub says-decided : (c : Case) (r : Verdict) → Says checked (c .parents) (c .ranks) (c .x) (c .y) (c .work) r → r ≡ decided c
+pub says-decided : (c : Case) (r : Verdict)
+    → Says checked (c .parents) (c .ranks) (c .x) (c .y) (c .work) r → r ≡ decided c
 unfolding decided
 says-decided c r s =
     says-one checked (c .parents) (c .ranks) (c .x) (c .y) (c .work) r _ s

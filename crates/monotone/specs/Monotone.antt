@@ -1,6 +1,6 @@
 -- Monotone drawings (document 01, "Check"; refusals 14 and 15).
 --
---   HasDirection P x y u v    == some whole numbers d and e, negative ones allowed, make every edge of the tree path rise
+--   HasDirection P x y u v    == some whole numbers d and e, negative ones allowed, make every edge of the path rise
 --   beyond place x y v        == refusal 15: x or y of v is above the largest place
 --   checkFault L ..           == refusals 1, 14, 3 to 7, 15 at the limits L
 --   Before a b u v            == the pair (a, b) comes before (u, v)

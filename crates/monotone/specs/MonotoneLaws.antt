@@ -1,5 +1,5 @@
--- What follows from the meaning of the check: it determines the answer, an edge of no length rises along nothing, and no
--- edge rises both ways.
+-- What follows from the meaning of the check: it determines the answer, an edge of no length rises along nothing, and
+-- no edge rises both ways.
 use mathlib.Core.List.{List, [], _∷_}
 use mathlib.Core.Logic.{inl, inr}
 use mathlib.Core.Option.{Option, none, some}
@@ -36,7 +36,8 @@ abbrev z : ℕ → Expr
 z i = Expr.v i
 
 pub not-both-ways : (x y : List ℕ) (d e : ℤ) (a b : ℕ) → Rises x y d e a b → Rises x y d e b a → ⊥
-not-both-ways x y d e a b r s = not-both (d *ℤ step x a b +ℤ e *ℤ step y a b) (<→≤ _ (r .above-0)) (<-to back (s .above-0))
+not-both-ways x y d e a b r s =
+    not-both (d *ℤ step x a b +ℤ e *ℤ step y a b) (<→≤ _ (r .above-0)) (<-to back (s .above-0))
   where
     back : d *ℤ step x b a +ℤ e *ℤ step y b a ≡ negℤ (d *ℤ step x a b +ℤ e *ℤ step y a b)
     back = solve (d ∷ e ∷ pos (getD x a 0) ∷ pos (getD x b 0) ∷ pos (getD y a 0) ∷ pos (getD y b 0) ∷ [])
@@ -48,7 +49,8 @@ not-both-ways x y d e a b r s = not-both (d *ℤ step x a b +ℤ e *ℤ step y a
 never-both : {r : Refusal} {o : Option Refusal} → o ≡ none → o ≡ some r → ⊥
 never-both p q = let impossible : _≡_ {A = ℕ} 0 1 = cc in omega arith
 
-same-refusal : {r s : Refusal} {o : Option Refusal} → o ≡ some r → o ≡ some s → Refused (r .number) (r .node) ≡ Refused (s .number) (s .node)
+same-refusal : {r s : Refusal} {o : Option Refusal} → o ≡ some r → o ≡ some s
+    → Refused (r .number) (r .node) ≡ Refused (s .number) (s .node)
 same-refusal {r} {s} p q = let e : r ≡ s = cc in ap (λ (t : Refusal). Refused (t .number) (t .node)) e
 
 module _ (L : Limits) (P R x y : List ℕ) (work : ℕ) where
@@ -61,7 +63,8 @@ module _ (L : Limits) (P R x y : List ℕ) (work : ℕ) where
 
       same-second : u ≡ c → v ≡ d
       same-second e =
-          by-lt v d (λ l. absurd (f (inr (e, l)))) (λ h. by-lt d v (λ l. absurd (g (inr (sym e, l)))) (λ i. omega arith))
+          by-lt v d (λ l. absurd (f (inr (e, l))))
+          (λ h. by-lt d v (λ l. absurd (g (inr (sym e, l)))) (λ i. omega arith))
 
   pub says-one : (r s : Verdict) → Says L P R x y work r → Says L P R x y work s → r ≡ s
   unfolding Says

@@ -1,6 +1,6 @@
--- The edges of a tree path. An edge is named by its lower node, and a function gives each its vector, walked away from the
--- path's start. The path from u to an ancestor grows by the edge up to the next one; the path to any other node is that to
--- its parent and the edge down.
+-- The edges of a tree path. An edge is named by its lower node, and a function gives each its vector, walked away from
+-- the path's start. The path from u to an ancestor grows by the edge up to the next one; the path to any other node is
+-- that to its parent and the edge down.
 --
 --   PathAhead P edge d u v   == every edge of the path from u to v is ahead of d
 --   OnPath P edge u v us     == that is so exactly where us are ahead of d
@@ -63,10 +63,12 @@ module _ {P R : List ℕ} (T : Tree P R) where
       before : (i : ℕ) → i < suc (rise P u w) → under P (climb P i u) (parent P w) ≡ true → ⊥
       before i h s =
           let inside : climb P i u < length P = climb-inside P (T .inside) i u l in
-          let onward : climb P (rise P u w - i) (climb P i u) ≡ w = climb-onward P (rise P u w) i u (omega arith) ∙ rise-to u w l m t in
+          let onward : climb P (rise P u w - i) (climb P i u) ≡ w =
+          climb-onward P (rise P u w) i u (omega arith) ∙ rise-to u w l m t in
           let same : climb P i u ≡ w = under-antisym T (climb P i u) w inside m
           (under-trans T (climb P i u) (parent P w) w m s (under-parent T w m))
-          (subst (λ (a : ℕ). under P a (climb P i u) ≡ true) onward (under-climb T (rise P u w - i) (climb P i u) inside)) in
+          (subst (λ (a : ℕ). under P a (climb P i u) ≡ true) onward
+          (under-climb T (rise P u w - i) (climb P i u) inside)) in
           differ (subst (λ (a : ℕ). under P a (parent P w) ≡ true) same s) (child-below w z m)
 
   module _ (u v : ℕ) (l : u < length P) (m : v < length P) (t : under P v u ≡ false) where
@@ -74,7 +76,8 @@ module _ {P R : List ℕ} (T : Tree P R) where
     pub rise-same : rise P u v ≡ rise P u (parent P v)
     unfolding rise
     rise-same = least-cong _ _ (length P) (λ k h. same-test _ _
-        (λ s. under-on T (climb P k u) v m s (λ e. differ (subst⁻¹ (λ (a : ℕ). under P a u ≡ true) e (under-climb T k u l)) t))
+        (λ s. under-on T (climb P k u) v m s
+        (λ e. differ (subst⁻¹ (λ (a : ℕ). under P a u ≡ true) e (under-climb T k u l)) t))
         (λ s. under-trans T (climb P k u) (parent P v) v m s (under-parent T v m)))
 
     -- and one step more down
@@ -82,7 +85,8 @@ module _ {P R : List ℕ} (T : Tree P R) where
     unfolding climb
     rise-more =
         rise-is T v u (suc (rise P (parent P v) u)) m l
-        (subst (λ (a : ℕ). under P a u ≡ true) (climb-shift P (rise P (parent P v) u) v) (rise-common T (parent P v) u (T .inside v m) l))
+        (subst (λ (a : ℕ). under P a u ≡ true) (climb-shift P (rise P (parent P v) u) v)
+        (rise-common T (parent P v) u (T .inside v m) l))
         before
       where
         before : (k : ℕ) → k < suc (rise P (parent P v) u) → under P (climb P k v) u ≡ false
@@ -168,14 +172,16 @@ module _ {P R : List ℕ} (T : Tree P R) (x y : List ℕ) (edge : ℕ → Vec) (
   unfolding climb away
   up-edge i h =
       drawn (climb P i u) (rise-way T u v i m h) (climb-inside P (T .inside) i u l)
-      ∙ ap (λ (b : Bool). cond b (hop x y (climb P i u) (climb P (suc i) u)) (hop x y (climb P (suc i) u) (climb P i u)))
+      ∙ ap (λ (b : Bool). cond b (hop x y (climb P i u) (climb P (suc i) u))
+      (hop x y (climb P (suc i) u) (climb P i u)))
       (under-climb T i u l)
 
   down-edge : (j : ℕ) → j < rise P v u → edge (climb P j v) ≡ hop x y (climb P (suc j) v) (climb P j v)
   unfolding climb away
   down-edge j h =
       drawn (climb P j v) (rise-way T v u j l h) (climb-inside P (T .inside) j v m)
-      ∙ ap (λ (b : Bool). cond b (hop x y (climb P j v) (climb P (suc j) v)) (hop x y (climb P (suc j) v) (climb P j v)))
+      ∙ ap (λ (b : Bool). cond b (hop x y (climb P j v) (climb P (suc j) v))
+      (hop x y (climb P (suc j) v) (climb P j v)))
       (rise-lowest T v u j h)
 
   pub has-direction : (us : List Vec) → OnPath P edge u v us → HasHalfPlane us → HasDirection P x y u v

@@ -1,5 +1,5 @@
--- Vectors of the plane with whole coordinates, the open half planes that hold a list of them, and cones: the two vectors
--- of a list that stand for all of it.
+-- Vectors of the plane with whole coordinates, the open half planes that hold a list of them, and cones: the two
+-- vectors of a list that stand for all of it.
 --
 --   Vec                    == a vector
 --   cross a b, dot a b     == the cross product and the dot product
@@ -86,7 +86,8 @@ module _ (d lo hi u : Vec) where
   along = solve (variables d lo hi u) (dotE 2 2 ⊗ dotE 0 6) (dotE 2 6 ⊗ dotE 0 2 ⊕ crossE 2 6 ⊗ crossE 2 0) tt
 
   against-lo : dot lo lo *ℤ dot d u +ℤ negℤ (dot lo u) *ℤ dot d lo ≡ cross lo u *ℤ cross lo d
-  against-lo = solve (variables d lo hi u) (dotE 2 2 ⊗ dotE 0 6 ⊕ negE (dotE 2 6) ⊗ dotE 0 2) (crossE 2 6 ⊗ crossE 2 0) tt
+  against-lo =
+      solve (variables d lo hi u) (dotE 2 2 ⊗ dotE 0 6 ⊕ negE (dotE 2 6) ⊗ dotE 0 2) (crossE 2 6 ⊗ crossE 2 0) tt
 
   dots : cross lo hi *ℤ dot lo u ≡ cross u hi *ℤ dot lo lo +ℤ cross lo u *ℤ dot lo hi
   dots = solve (variables d lo hi u) (crossE 2 4 ⊗ dotE 2 6) (crossE 6 4 ⊗ dotE 2 2 ⊕ crossE 2 6 ⊗ dotE 2 4) tt

@@ -1,5 +1,5 @@
--- The work list while the paths from one node u are followed: each node's cone is that of its path from u, and 0 while that
--- path is not known. What the contracts of the loops cite.
+-- The work list while the paths from one node u are followed: each node's cone is that of its path from u, and 0 while
+-- that path is not known. What the contracts of the loops cite.
 --
 --   WithEdges P W           == P is a tree, and W has its edges
 --   EdgeTurned n z W X  == X is W with the edge of z turned round

@@ -1,17 +1,23 @@
 // Whether a given drawing of a tree is monotone.
+//
+// A pair of nodes has a direction exactly when the vectors of its tree path lie in an open half plane, and of those the
+// two outermost are all that a longer path asks for: they are the path's cone. For each node u in turn one pass gives
+// every node v the cone of the path from u: up to u's ancestors first, then down from the root, each from its
+// neighbour's. The work list holds, of n numbers each, the cones, the parts across and up of the nodes' edges, and the
+// post-order. While u has its turn, the edges from u to the root are turned round, so that every edge is walked away
+// from u.
 ghost use mathlib.Core.List.{List, [], _∷_};
 ghost use mathlib.Core.Path.{_≡_};
 ghost use Prim.Native.Nat.{ℕ, _+_, _-_, _*_, _≤_, _<_};
-ghost use lib.IntN.{pos, _-ℤ_};
 ghost use lib.ListN.{length, getD, set};
-ghost use Rattle.monotone.specs.Plane.{cross, dot};
 ghost use Rattle.laws.specs.Regions.{Only};
 ghost use Rattle.laws.specs.Search.{least};
 ghost use Rattle.table.specs.Table.{allLong, checked};
 ghost use Rattle.table.specs.Work.{Zeroed};
 ghost use Rattle.monotone.specs.Monotone.{beyond, Says, Untouched};
+ghost use Rattle.monotone.specs.Plane.{cross, dot};
 ghost use Rattle.monotone.specs.Rows.{WithEdges, EdgeTurned, Turned, Climbed, Reached, Visited, Ordered, Coned, Coordinate, DrawnPart, Drawn, Found, Judged, Checked};
-ghost use Rattle.monotone.specs.Cones.{vec, Small, Near, Moved, partAt, edgeAt, Part, Edges, Alone, Formed, Grown};
+ghost use Rattle.monotone.specs.Cones.{vec, Small, Near, Moved, partAt, edgeAt, Part, Edges, Alone, Growing, Grown};
 use table::Limits;
 use table::Validity;
 use table::clear;
@@ -27,14 +33,22 @@ pub enum Verdict {
     Refused(u32, u32),
 }
 
+// The cone of a path with no edge, and of one that no half plane holds. Any other is the node of the clockwise side times
+// `SIDE` and the node of the other side; 0 stands for a cone that is not known yet.
+const EMPTY: usize = 1;
+
+const SHUT: usize = 2;
+
+const SIDE: usize = 65536;
+
 // A vector of the plane: a difference of two places.
 struct Vector {
     across: i64,
     up: i64,
 }
 
-// What one vector more does to a cone: nothing, it becomes the counter-clockwise or the clockwise side, or no half plane
-// is left.
+// What one vector more does to a cone: nothing, it becomes the counter-clockwise or the clockwise side, or no half
+// plane is left.
 enum Move {
     Keep,
     High,
@@ -87,7 +101,7 @@ fn step(lo: Vector, hi: Vector, u: Vector) -> Move
     Move::Never
 }
 
-// A part of a vector, from the number that stands for it.
+// A part of a vector, from the number that stands for it: 2,147,483,648 stands for 0.
 fn part(work: &[u32], i: usize) -> i64
     requires { ⌜ (i < length (now work)) × (1 ≤ getD (now work) i 0) ⌝ }
     ensures { λ r. ⌜ (r ≡ partAt (now (work .entry)) i) × Small r ⌝ }
@@ -117,35 +131,35 @@ fn alone(z: usize, e: Vector) -> usize
     let across = e.across;
     let up = e.up;
     if across != 0 {
-        return z * 65536 + z;
+        return z * SIDE + z;
     }
     if up != 0 {
-        return z * 65536 + z;
+        return z * SIDE + z;
     }
-    2
+    SHUT
 }
 
 // The cone of a path with one edge more, that of node z.
 fn grow(work: &[u32], n: usize, cone: usize, z: usize) -> usize
-    requires { ⌜ Edges n (now work) × (0 < z) × (z < n) × Formed n cone ⌝ }
+    requires { ⌜ Growing n (now work) cone z ⌝ }
     ensures { λ r. ⌜ Grown n (edgeAt n (now (work .entry))) cone z r ⌝ }
 {
-    if cone == 2 {
-        return 2;
+    if cone == SHUT {
+        return SHUT;
     }
     let e = edge(work, n, z);
-    if cone == 1 {
+    if cone == EMPTY {
         return alone(z, e);
     }
-    let low = cone / 65536;
-    let high = cone % 65536;
+    let low = cone / SIDE;
+    let high = cone % SIDE;
     let a = edge(work, n, low);
     let b = edge(work, n, high);
     match step(a, b, e) {
         Move::Keep => cone,
-        Move::High => low * 65536 + z,
-        Move::Low => z * 65536 + high,
-        Move::Never => 2,
+        Move::High => low * SIDE + z,
+        Move::Low => z * SIDE + high,
+        Move::Never => SHUT,
     }
 }
 
@@ -180,15 +194,16 @@ fn turn(parent: &[u32], work: &mut [u32], u: usize)
     }
 }
 
-// The cones of the paths from u to itself and its ancestors. The edges on the way are turned round, so that all are walked
-// away from u.
+// The cones of the paths from u to itself and its ancestors. The edges on the way are turned round, so that all are
+// walked away from u.
 fn climb(parent: &[u32], work: &mut [u32], u: usize)
-    requires { ⌜ WithEdges (now parent) (now work) × (u < length (now parent)) × Zeroed 0 (length (now parent)) (now work) ⌝ }
+    requires { ⌜ WithEdges (now parent) (now work) × (u < length (now parent)) ⌝ }
+    requires { ⌜ Zeroed 0 (length (now parent)) (now work) ⌝ }
     ensures { λ _. ⌜ Climbed (now (parent .entry)) u (now (work .entry)) (now (work .exit)) ⌝ }
 {
     let n = parent.len();
-    put(work, u, 1);
-    let mut cone = 1;
+    put(work, u, EMPTY);
+    let mut cone = EMPTY;
     let mut z = u;
     while 0 < z {
         let p = get(parent, z);
@@ -244,7 +259,7 @@ fn pairs(parent: &[u32], work: &mut [u32]) -> Verdict
         cones(parent, work, u);
         let mut v = u + 1;
         while v < n {
-            if get(work, v) == 2 {
+            if get(work, v) == SHUT {
                 answer = Verdict::Turns(u as u32, v as u32);
                 break 'pairs;
             }
@@ -346,6 +361,11 @@ pub fn check(parent: &[u32], rank: &[u32], x: &[u32], y: &[u32], work: &mut [u32
     ensures { λ r. ⌜ Says checked (now (parent .entry)) (now (rank .entry)) (now (x .entry)) (now (y .entry)) (length (now (work .entry))) r ⌝ }
     ensures { λ r. ⌜ Untouched checked r (now (work .entry)) (now (work .exit)) ⌝ }
 {
-    let limits = table::checked_limits();
+    let limits = Limits {
+        nodes: 4096,
+        surplus: 14,
+        place: 2147483647,
+        beyond: 15,
+    };
     check_within(limits, parent, rank, x, y, work)
 }

@@ -9,7 +9,7 @@ ghost use Prim.Native.Nat.{ℕ, _+_, _*_, _^_, _≤_, _<_};
 ghost use lib.ListN.{length, getD, set};
 ghost use Rattle.laws.specs.Regions.{Only};
 ghost use Rattle.laws.specs.Search.{least};
-ghost use Rattle.table.specs.Table.{climb, postNumber, strayParent, badRank, adrift, large, checked};
+ghost use Rattle.table.specs.Table.{climb, postNumber, strayParent, badRank, adrift, large};
 ghost use Rattle.table.specs.Work.{Scratch, Zeroed, Tallied, Started, Seating, Occupied, marked, Marking, Reaching, Shaped, Structured, Validated, Ready, Seated, Leftmost, Next, Visited};
 ghost use Rattle.table.specs.Numbering.{Numbered};
 
@@ -28,7 +28,7 @@ pub enum Validity {
     Refused(u32, u32),
 }
 
-// The limits of every call but the check, and the check's.
+// The limits of every call but the check.
 pub fn large_limits() -> Limits
     ensures { λ r. ⌜ r ≡ large ⌝ }
 {
@@ -37,17 +37,6 @@ pub fn large_limits() -> Limits
         surplus: 2,
         place: 2147483647,
         beyond: 11,
-    }
-}
-
-pub fn checked_limits() -> Limits
-    ensures { λ r. ⌜ r ≡ checked ⌝ }
-{
-    Limits {
-        nodes: 4096,
-        surplus: 14,
-        place: 2147483647,
-        beyond: 15,
     }
 }
 

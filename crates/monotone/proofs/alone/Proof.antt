@@ -27,7 +27,8 @@ returns-2 c = one (λ h. c .if2 .taken (bits-zero _ (h .1))) refl
 returns-3 : tie.Need-returns-3
 returns-3 c =
     let start = c .before .before .before .before in
-    none (zero-bits _ (start .pre .0 .across-near) (c .before .if1 .left), zero-bits _ (start .pre .0 .up-near) (c .if2 .left)) refl
+    let near = start .pre .0 in
+    none (zero-bits _ (near .across-near) (c .before .if1 .left), zero-bits _ (near .up-near) (c .if2 .left)) refl
 
 pub alone-spec : {M : Type 1} → statement M
 alone-spec = tie.close (tie.spec mul-result add-result returns mul-result-2 add-result-2 returns-2 returns-3)

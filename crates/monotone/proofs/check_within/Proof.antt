@@ -1,10 +1,12 @@
 -- Each answer is a case of the definition: a refusal of the table, one of a place, or what the pairs say.
+use mathlib.Core.List.{[], _∷_}
 use mathlib.Core.Path.{_≡_, sym, subst, _∙_}
 use native.Mathlib.Omega.{arith}
 use lib.ListN.{length}
 use borrow.Author.Needs.{needs}
 use Rattle.table.specs.declared.Validity.{Validity}
 use Rattle.table.specs.declared.Validity.the-variants.{Accepted}
+use Rattle.table.specs.Table.{allLong}
 use Rattle.table.specs.Work.{Validated}
 use Rattle.monotone.proofs.Judging.{checked-table, checked-far, checked-found, judged, x-long, y-long, few-nodes}
 use Rattle.monotone.proofs.check_within.Statement.{statement}
@@ -22,34 +24,45 @@ enum-known-number c = search needs
 enum-told : tie.Need-enum-told
 enum-told c = search needs
 
--- the table is accepted
-module _ (c : tie.After-enum-told) where
-  abbrev valid : tie.After-validate
-  valid = c .before .before .before .before
-
+-- what `validate` and `both_long` say
+module _ (c : tie.After-validate) where
   abbrev lengths : tie.After-both-long
-  lengths = valid .before .before
+  lengths = c .before .before
 
   abbrev start : tie.Start
   start = lengths .before .before .before .before .before .before
 
-  validated : Validated (start .args .limits) (start .args .parent .now) (start .args .rank .now) (lengths .both-long .result)
-      (start .args .work .now) (valid .validate .last .1 .1 .1 .1 .0) Accepted
-  validated =
-      subst (Validated (start .args .limits) (start .args .parent .now) (start .args .rank .now) (lengths .both-long .result)
-      (start .args .work .now) (valid .validate .last .1 .1 .1 .1 .0)) (c .enum-told .given .1) (valid .validate .ensures)
+  abbrev Valid : Validity → Type 0
+  Valid r =
+      Validated (start .args .limits) (start .args .parent .now) (start .args .rank .now) (lengths .both-long .result)
+      (start .args .work .now) (c .validate .last .1 .1 .1 .1 .0) r
+
+  valid-as : (r : Validity) → c .validate .result ≡ r → Valid r
+  valid-as r e = subst Valid e (c .validate .ensures)
+
+  same : lengths .both-long .result
+      ≡ allLong (length (start .args .parent .now)) (start .args .x .now ∷ start .args .y .now ∷ [])
+  same = lengths .both-long .ensures
+
+-- the table is accepted
+module _ (c : tie.After-enum-told) where
+  abbrev checked : tie.After-validate
+  checked = c .before .before .before .before
+
+  accepted : Valid checked Accepted
+  accepted = valid-as checked Accepted (c .enum-told .given .1)
 
 too-far-requires : tie.Need-too-far-requires
 too-far-requires c κs =
-    let at = start c .args in
-    let same = lengths c .both-long .ensures in
-    y-long (at .x .now) (at .y .now) same (validated c) ∙ sym (x-long (at .x .now) (at .y .now) same (validated c))
+    let at = start (checked c) .args in
+    y-long (at .x .now) (at .y .now) (same (checked c)) (accepted c)
+    ∙ sym (x-long (at .x .now) (at .y .now) (same (checked c)) (accepted c))
 
 cast-t17 : tie.Need-cast-t17
 cast-t17 c =
-    let accepted = c .before .before in
-    let at = start accepted in
-    let few = few-nodes (at .args .x .now) (at .args .y .now) (lengths accepted .both-long .ensures) (validated accepted) (at .pre .0) in
+    let told = c .before .before in
+    let at = start (checked told) in
+    let few = few-nodes (at .args .x .now) (at .args .y .now) (same (checked told)) (accepted told) (at .pre .0) in
     omega (arith, c .if1 .taken, few)
 
 same-length : tie.Need-same-length
@@ -57,20 +70,18 @@ same-length c = search needs
 
 returns : tie.Need-returns
 returns c =
-    let found = c .before in
-    let accepted = found .before in
-    let at = start accepted .args in
-    checked-far (at .x .now) (at .y .now) (lengths accepted .both-long .ensures) (validated accepted) (found .too-far .ensures)
+    let told = c .before .before in
+    let at = start (checked told) .args in
+    checked-far (at .x .now) (at .y .now) (same (checked told)) (accepted told) (c .before .too-far .ensures)
     (c .if1 .taken)
 
 judge-requires : tie.Need-judge-requires
 judge-requires c κs =
     let test = c .before in
-    let found = test .before in
-    let accepted = found .before in
-    let at = start accepted .args in
-    judged (at .x .now) (at .y .now) (lengths accepted .both-long .ensures) (validated accepted) (found .too-far .ensures)
-    (test .if1 .left) (start accepted .pre .0) (start accepted .pre .1)
+    let told = test .before .before in
+    let at = start (checked told) in
+    judged (at .args .x .now) (at .args .y .now) (same (checked told)) (accepted told) (test .before .too-far .ensures)
+    (test .if1 .left) (at .pre .0) (at .pre .1)
 
 same-length-2 : tie.Need-same-length-2
 same-length-2 c = search needs
@@ -79,24 +90,20 @@ returns-2 : tie.Need-returns-2
 returns-2 c =
     let told = c .before in
     let valid = told .before .before .before .before in
-    let lengths = valid .before .before in
-    let start = lengths .before .before .before .before .before .before in
-    checked-table (start .args .x .now) (start .args .y .now) (lengths .both-long .ensures)
-    (subst (Validated (start .args .limits) (start .args .parent .now) (start .args .rank .now) (lengths .both-long .result)
-    (start .args .work .now) (valid .validate .last .1 .1 .1 .1 .0)) (told .number .given .1) (valid .validate .ensures))
+    let at = start valid .args in
+    checked-table (at .x .now) (at .y .now) (same valid) (valid-as valid _ (told .number .given .1))
 
 same-length-3 : tie.Need-same-length-3
 same-length-3 c = search needs
 
 returns-3 : tie.Need-returns-3
 returns-3 c =
-    let judged = c .before .before in
-    let test = judged .before .before in
-    let found = test .before in
-    let accepted = found .before in
-    let at = start accepted .args in
-    checked-found (at .x .now) (at .y .now) (lengths accepted .both-long .ensures) (validated accepted) (found .too-far .ensures)
-    (test .if1 .left) (judged .judge .result) (judged .judge .ensures)
+    let found = c .before .before in
+    let test = found .before .before in
+    let told = test .before .before in
+    let at = start (checked told) .args in
+    checked-found (at .x .now) (at .y .now) (same (checked told)) (accepted told) (test .before .too-far .ensures)
+    (test .if1 .left) (found .judge .result) (found .judge .ensures)
 
 pub check-within-spec : {M : Type 1} → statement M
 check-within-spec =

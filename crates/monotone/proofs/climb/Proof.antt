@@ -21,13 +21,15 @@ abbrev μ-loop : tie.MeasureT-loop
 put-requires : tie.Need-put-requires Inv-loop μ-loop
 put-requires c κs =
     let start = c .before .before .before in
-    (omega (arith, start .pre .0 .edges .long), omega arith)
+    (omega (arith, start .pre .0 .0 .edges .long), omega arith)
 
 loop-holds : tie.Need-loop-holds Inv-loop μ-loop
 loop-holds c =
     let stored = c .before .before in
     let start = stored .before .before .before .before in
-    climbing-start (start .pre .0 .tree) (start .pre .1) (start .args .work .now) (omega (arith, start .pre .0 .edges .long)) (start .pre .2)
+    let known = start .pre in
+    climbing-start (known .0 .0 .tree) (known .0 .1) (start .args .work .now) (omega (arith, known .0 .0 .edges .long))
+    (known .1)
     (stored .put .ensures)
 
 -- what the first store leaves, and where the loop stands
@@ -42,10 +44,10 @@ module _ (c : tie.At-loop Inv-loop μ-loop) where
   first = stored .put .last .0
 
   first-only : Only 0 (length (start .args .parent .now)) (start .args .work .now) first
-  first-only = only-store (start .args .u) 1 (omega arith) (start .pre .1) (stored .put .ensures)
+  first-only = only-store (start .args .u) 1 (omega arith) (start .pre .0 .1) (stored .put .ensures)
 
   first-edges : Edges (length (start .args .parent .now)) first
-  first-edges = edges-kept first-only (start .pre .0 .edges)
+  first-edges = edges-kept first-only (start .pre .0 .0 .edges)
 
   here-edges : Edges (length (start .args .parent .now)) (c .loop .work)
   here-edges = turning-edges (c .loop .inv .turning) (c .loop .inv .only .long) first-edges
@@ -71,19 +73,20 @@ module _ (c : tie.After-turn-edge Inv-loop μ-loop) where
 
   parent-in : parent .get .result < length (start at .args .parent .now)
   parent-in =
-      let inside = start at .pre .0 .tree .inside (at .loop .z) (at .loop .inv .turning .inside) in
+      let inside = start at .pre .0 .0 .tree .inside (at .loop .z) (at .loop .inv .turning .inside) in
       omega (arith, parent .get .ensures .0, inside)
 
   next-edges : Edges (length (start at .args .parent .now)) (c .turn-edge .last .0)
   next-edges =
-      turning-edges (climbing-turned (start at .pre .0 .tree) (start at .pre .1) some (at .loop .inv) (c .turn-edge .ensures))
+      turning-edges (climbing-turned (start at .pre .0 .0 .tree) (start at .pre .0 .1) some (at .loop .inv)
+      (c .turn-edge .ensures))
       (c .turn-edge .ensures .long ∙ at .loop .inv .only .long) (first-edges at)
 
 grow-requires : tie.Need-grow-requires Inv-loop μ-loop
 grow-requires c κs =
     let turned = c .before .before .before in
     let inv = at turned .loop .inv in
-    (next-edges turned, some turned, inv .turning .inside, inv .formed)
+    record { edges = next-edges turned; some = some turned; inside = inv .turning .inside; formed = inv .formed }
 
 put-requires-2 : tie.Need-put-requires-2 Inv-loop μ-loop
 put-requires-2 c κs =
@@ -95,7 +98,8 @@ loop-less : tie.Need-loop-less Inv-loop μ-loop
 loop-less c =
     let turned = c .before .before .before .before .before .before .before .before in
     let begun = start (at turned) in
-    let less = depth-parent (begun .pre .0 .tree) (at turned .loop .z) (some turned) (at turned .loop .inv .turning .inside) in
+    let less = depth-parent (begun .pre .0 .0 .tree) (at turned .loop .z) (some turned)
+    (at turned .loop .inv .turning .inside) in
     omega (arith, less, ap (depth (begun .args .parent .now)) (parent turned .get .ensures .0))
 
 loop-again : tie.Need-loop-again Inv-loop μ-loop
@@ -106,9 +110,11 @@ loop-again c =
     let begun = start (at turned) in
     let known = begun .pre in
     let is-parent = parent turned .get .ensures .0 in
-    subst⁻¹ (λ (z : ℕ). Climbing (begun .args .parent .now) (begun .args .u) z (first (at turned)) (kept .put2 .last .0) (grown .grow .result))
+    subst⁻¹ (λ (z : ℕ).
+    Climbing (begun .args .parent .now) (begun .args .u) z (first (at turned)) (kept .put2 .last .0)
+    (grown .grow .result))
     is-parent
-    (climbing-step (known .0 .tree) (known .1) (some turned) (at turned .loop .inv) (turned .turn-edge .ensures)
+    (climbing-step (known .0 .0 .tree) (known .0 .1) (some turned) (at turned .loop .inv) (turned .turn-edge .ensures)
     (grown .grow .result) (grown .grow .ensures) (omega (arith, is-parent, parent-in turned, next-edges turned .long))
     (kept .put2 .ensures ∙ ap (λ (p : ℕ). set (turned .turn-edge .last .0) p (grown .grow .result)) is-parent))
 
@@ -118,7 +124,7 @@ same-length c = c .before .loop .inv .only .long ∙ first-only (c .before) .lon
 returns : tie.Need-returns Inv-loop μ-loop
 returns c =
     let at = c .before in
-    climbing-end (start at .pre .0 .tree) (first-only at) (c .loop-test .left) (at .loop .inv)
+    climbing-end (start at .pre .0 .0 .tree) (first-only at) (c .loop-test .left) (at .loop .inv)
 
 pub climb-spec : {M : Type 1} → statement M
 climb-spec =

@@ -37,7 +37,7 @@ module _ (c : tie.After-clear Inv-loop μ-loop) where
 climb-requires : tie.Need-climb-requires Inv-loop μ-loop
 climb-requires c κs =
     let clear = c .before .before .before in
-    (cleared clear, start clear .pre .2, clear .clear .ensures .0)
+    ((cleared clear, start clear .pre .2), clear .clear .ensures .0)
 
 module _ (c : tie.After-climb Inv-loop μ-loop) where
   abbrev clear-of : tie.After-clear Inv-loop μ-loop
@@ -50,7 +50,9 @@ module _ (c : tie.After-climb Inv-loop μ-loop) where
   climbed = edges-away (c .climb .ensures .away) (c .climb .ensures .only .long) (cleared clear-of)
 
   ordered : Ordered (first .args .parent .now) (c .climb .last .1 .0)
-  ordered = ordered-kept (λ j h. c .climb .ensures .only .above j h ∙ clear-of .clear .ensures .1 .above j (omega arith)) (first .pre .1)
+  ordered =
+      ordered-kept (λ j h. c .climb .ensures .only .above j h ∙ clear-of .clear .ensures .1 .above j (omega arith))
+      (first .pre .1)
 
 loop-holds : tie.Need-loop-holds Inv-loop μ-loop
 loop-holds c = spreading-start (ordered (c .before .before)) (c .before .before .climb .ensures .row)
@@ -87,7 +89,9 @@ visit-requires c κs =
     let start = first (climb-of turn) in (
       here turn,
       subst⁻¹ (Reached (start .args .parent .now) (turn .loop .work)) (node .get .ensures .0)
-          (spreading-reached (start .pre .0 .tree) (start .pre .2) (climbed (climb-of turn) .edges) (test .loop-test .taken) (turn .loop .inv)),
+          (spreading-reached (start .pre .0 .tree) (start .pre .2) (climbed (climb-of turn) .edges)
+          (test .loop-test .taken)
+          (turn .loop .inv)),
     )
 
 loop-less : tie.Need-loop-less Inv-loop μ-loop
@@ -100,21 +104,28 @@ loop-again c =
     let test = node .before .before in
     let turn = test .before in
     let start = first (climb-of turn) in
-    spreading-step (start .pre .0 .tree) (start .pre .2) (climbed (climb-of turn) .edges) (test .loop-test .taken) (turn .loop .inv)
-    (subst (λ (v : ℕ). Visited (start .args .parent .now) (turn .loop .work) v (visited .visit .last .1 .0)) (node .get .ensures .0)
-    (visited .visit .ensures))
+    spreading-step (start .pre .0 .tree) (start .pre .2) (climbed (climb-of turn) .edges) (test .loop-test .taken)
+    (turn .loop .inv)
+    (subst (λ (v : ℕ). Visited (start .args .parent .now) (turn .loop .work) v (visited .visit .last .1 .0))
+    (node .get .ensures .0) (visited .visit .ensures))
 
 turn-requires : tie.Need-turn-requires Inv-loop μ-loop
 turn-requires c κs =
     let turn = c .before .before in
     (here turn, first (climb-of turn) .pre .2)
 
-result : (c : tie.After-turn Inv-loop μ-loop) → Coned (first (climb-of (c .before .before .before)) .args .parent .now)
-    (first (climb-of (c .before .before .before)) .args .u) (first (climb-of (c .before .before .before)) .args .work .now) (c .turn .last .1 .0)
-result c =
-    let turn = c .before .before .before in
-    let climb = climb-of turn in
-    coned (clear-of climb .clear .ensures .1) (climb .climb .ensures) (c .before .before .loop-test .left) (turn .loop .inv) (c .turn .ensures)
+module _ (c : tie.After-turn Inv-loop μ-loop) where
+  abbrev at : tie.At-loop Inv-loop μ-loop
+  at = c .before .before .before
+
+  abbrev args : tie.Start Inv-loop μ-loop
+  args = first (climb-of at)
+
+  result : Coned (args .args .parent .now) (args .args .u) (args .args .work .now) (c .turn .last .1 .0)
+  result =
+      coned (clear-of (climb-of at) .clear .ensures .1) (climb-of at .climb .ensures)
+      (c .before .before .loop-test .left)
+      (at .loop .inv) (c .turn .ensures)
 
 same-length : tie.Need-same-length Inv-loop μ-loop
 same-length c = result (c .before .before) .only .long

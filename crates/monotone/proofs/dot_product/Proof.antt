@@ -6,7 +6,8 @@ use Rattle.monotone.proofs.dot_product.Tie as tie
 mul-result : tie.Need-mul-result
 mul-result c =
     let start = c .before .before .before .before in
-    product-fits (start .args .a .across) (start .args .b .across) (start .pre .0 .across-near) (start .pre .1 .across-near)
+    product-fits (start .args .a .across) (start .args .b .across)
+    (start .pre .0 .across-near) (start .pre .1 .across-near)
 
 mul-result-2 : tie.Need-mul-result-2
 mul-result-2 c =

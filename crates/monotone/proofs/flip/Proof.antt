@@ -22,7 +22,9 @@ returns : tie.Need-returns
 returns c =
     let stored = c .before .before in
     let start = stored .before .before .before .before .before in
-    stored .put .ensures ∙ ap (λ (k : ℕ). set (start .args .work .now) (start .args .i) (4294967296 - k)) (stored .before .before .get .ensures .0)
+    stored .put .ensures
+    ∙ ap (λ (k : ℕ). set (start .args .work .now) (start .args .i) (4294967296 - k))
+    (stored .before .before .get .ensures .0)
 
 pub flip-spec : {M : Type 1} → statement M
 flip-spec = tie.close (tie.spec get-requires sub-put put-requires same-length returns)

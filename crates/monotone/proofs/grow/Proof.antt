@@ -1,4 +1,4 @@
--- Each return is a case of `Growth`: a shut cone stays shut, the first edge is a cone of its own, and else the move says it.
+-- Each return is a case of `Growth`: a shut cone stays shut, the first edge is a cone of its own, else the move says it.
 use mathlib.Core.Path.{subst}
 use Prim.Native.Nat.{ℕ, _/_, _%_}
 use borrow.Author.Needs.{needs}
@@ -8,26 +8,8 @@ use Rattle.monotone.proofs.Growth.{grow-shut, grow-first, grow-keep, gr
 use Rattle.monotone.proofs.grow.Statement.{statement}
 use Rattle.monotone.proofs.grow.Tie as tie
 
-abbrev start : tie.After-step → tie.Start
-start c = c .before .before .before .before .before .before .before
-
-pair : (c : tie.After-step) → Pair (start c .args .n) (start c .args .cone)
-pair c = start c .pre .3 .pair (c .before .before .before .if2 .left) (c .before .before .before .before .before .if1 .left)
-
--- the move, in the words of `Growth`
-abbrev edges : tie.After-step → ℕ → Vec
-edges c = edgeAt (start c .args .n) (start c .args .work .now)
-
-moved : (c : tie.After-step)
-    → Moved (edges c (start c .args .cone / 65536)) (edges c (start c .args .cone % 65536)) (edges c (start c .args .z)) (c .step .result)
-moved c =
-    moved-to (c .before .before .edge2 .ensures .0) (c .before .edge3 .ensures .0) (c .before .before .before .before .edge .ensures .0)
-    (c .step .ensures)
-
 returns : tie.Need-returns
-returns c =
-    let start = c .before .before in
-    grow-shut (start .args .n) (edgeAt (start .args .n) (start .args .work .now)) (start .args .cone) (start .args .z) (start .pre .0 .few) (start .pre .1) (start .pre .2) (c .if1 .taken)
+returns c = grow-shut (c .before .before .pre) (c .if1 .taken)
 
 edge-requires : tie.Need-edge-requires
 edge-requires c κs = search needs
@@ -39,23 +21,45 @@ returns-2 : tie.Need-returns-2
 returns-2 c =
     let first = c .before .before in
     let start = first .before .before .before in
-    grow-first (start .args .n) (edgeAt (start .args .n) (start .args .work .now)) (start .args .cone) (start .args .z) (start .pre .0 .few) (start .pre .1) (start .pre .2) (c .before .if2 .taken)
+    grow-first (start .pre) (c .before .if2 .taken)
     (subst (λ (e : Vec). Alone (start .args .z) e (c .alone .result)) (first .edge .ensures .0) (c .alone .ensures))
 
 edge-requires-2 : tie.Need-edge-requires-2
 edge-requires-2 c κs =
-    let start = c .before .before .before .before in
-    let pair = start .pre .3 .pair (c .if2 .left) (c .before .before .if1 .left) in
-    (start .pre .0, pair .low, pair .low-in)
+    let known = c .before .before .before .before .pre in
+    let pair = known .formed .pair (c .if2 .left) (c .before .before .if1 .left) in
+    (known .edges, pair .low, pair .low-in)
 
 edge-requires-3 : tie.Need-edge-requires-3
 edge-requires-3 c κs =
-    let start = c .before .before .before .before .before in
-    let pair = start .pre .3 .pair (c .before .if2 .left) (c .before .before .before .if1 .left) in
-    (start .pre .0, pair .high, pair .high-in)
+    let known = c .before .before .before .before .before .pre in
+    let pair = known .formed .pair (c .before .if2 .left) (c .before .before .before .if1 .left) in
+    (known .edges, pair .high, pair .high-in)
 
 step-requires : tie.Need-step-requires
 step-requires c κs = search needs
+
+-- the move, in the words of `Growth`
+module _ (c : tie.After-step) where
+  abbrev test : tie.Else2
+  test = c .before .before .before
+
+  abbrev start : tie.Start
+  start = test .before .before .before .before
+
+  abbrev edges : ℕ → Vec
+  edges = edgeAt (start .args .n) (start .args .work .now)
+
+  abbrev cone : ℕ
+  cone = start .args .cone
+
+  pair : Pair (start .args .n) cone
+  pair = start .pre .formed .pair (test .if2 .left) (test .before .before .if1 .left)
+
+  moved : Moved (edges (cone / 65536)) (edges (cone % 65536)) (edges (start .args .z)) (c .step .result)
+  moved =
+      moved-to (c .before .before .edge2 .ensures .0) (c .before .edge3 .ensures .0) (test .before .edge .ensures .0)
+      (c .step .ensures)
 
 enum-told : tie.Need-enum-told
 enum-told c = search needs
@@ -83,27 +87,23 @@ enum-told-4 c = search needs
 
 returns-3 : tie.Need-returns-3
 returns-3 c =
-    let at = start (c .before .before) in
-    grow-keep (at .args .n) (edges (c .before .before)) (at .args .cone) (at .args .z) (at .pre .0 .few) (at .pre .1) (at .pre .2)
-    (c .before .before .step .result) (moved (c .before .before)) (pair (c .before .before)) (c .enum-told .given .1)
+    let said = c .before .before in
+    grow-keep (start said .pre) (said .step .result) (moved said) (pair said) (c .enum-told .given .1)
 
 returns-4 : tie.Need-returns-4
 returns-4 c =
-    let at = start (c .before .before) in
-    grow-high (at .args .n) (edges (c .before .before)) (at .args .cone) (at .args .z) (at .pre .0 .few) (at .pre .1) (at .pre .2)
-    (c .before .before .step .result) (moved (c .before .before)) (pair (c .before .before)) (c .enum-told2 .given .1)
+    let said = c .before .before in
+    grow-high (start said .pre) (said .step .result) (moved said) (pair said) (c .enum-told2 .given .1)
 
 returns-5 : tie.Need-returns-5
 returns-5 c =
-    let at = start (c .before .before) in
-    grow-low (at .args .n) (edges (c .before .before)) (at .args .cone) (at .args .z) (at .pre .0 .few) (at .pre .1) (at .pre .2)
-    (c .before .before .step .result) (moved (c .before .before)) (pair (c .before .before)) (c .enum-told3 .given .1)
+    let said = c .before .before in
+    grow-low (start said .pre) (said .step .result) (moved said) (pair said) (c .enum-told3 .given .1)
 
 returns-6 : tie.Need-returns-6
 returns-6 c =
-    let at = start (c .before .before) in
-    grow-never (at .args .n) (edges (c .before .before)) (at .args .cone) (at .args .z) (at .pre .0 .few) (at .pre .1) (at .pre .2)
-    (c .before .before .step .result) (moved (c .before .before)) (pair (c .before .before)) (c .enum-told4 .given .1)
+    let said = c .before .before in
+    grow-never (start said .pre) (said .step .result) (moved said) (pair said) (c .enum-told4 .given .1)
 
 pub grow-spec : {M : Type 1} → statement M
 grow-spec =

@@ -29,7 +29,8 @@ module _ (c : tie.After-offsets2) where
   start = numbers .before .before .before .before .before .before .before
 
   edges : WithEdges (start .args .parent .now) (c .offsets2 .last .1 .1 .0)
-  edges = with-edges (start .pre) (numbers .number .ensures) (x-parts .offsets .ensures .0) (x-parts .offsets .ensures .1)
+  edges = with-edges (start .pre) (numbers .number .ensures) (x-parts .offsets .ensures .0)
+      (x-parts .offsets .ensures .1)
       (c .offsets2 .ensures .0) (c .offsets2 .ensures .1)
 
   order : Ordered (start .args .parent .now) (c .offsets2 .last .1 .1 .0)

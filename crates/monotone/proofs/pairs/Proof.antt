@@ -118,7 +118,8 @@ pairs-again c =
     record {
       most = omega (arith, in-row place);
       only = kept place;
-      passed = passed-row (start place .pre .0 .tree) (in-row place) (row place .pairs .inv .only) (coned place .cones .ensures)
+      passed = passed-row (start place .pre .0 .tree) (in-row place) (row place .pairs .inv .only)
+          (coned place .cones .ensures)
           (row place .pairs .inv .passed) (place .loop .inv .clear) (c .loop-test .left);
       still = place .loop .inv .still;
     }

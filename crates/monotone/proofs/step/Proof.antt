@@ -1,7 +1,9 @@
 -- Each return is a case of `Plane`, with the signs that led there.
+use mathlib.Core.Path.{_≡_}
+use lib.IntN.{pos}
 use borrow.Author.Needs.{needs}
 use Rattle.laws.specs.Signs.{≤≥}
-use Rattle.monotone.specs.Plane.{high, low, keep-high, keep-low, keep-along, against-low, against-high, against-along}
+use Rattle.monotone.specs.Plane.{cross, high, low, keep-high, keep-low, keep-along, against-low, against-high, against-along}
 use Rattle.monotone.specs.Cones.{vec}
 use Rattle.monotone.proofs.Wide.{above-yes, above-no, below-yes, below-no}
 use Rattle.monotone.proofs.step.Statement.{statement}
@@ -70,34 +72,48 @@ returns-6 c =
     let q = c .before .before .before .before .cross-product2 in
     record {
       after = λ us cone. against-high (vec (start .args .u)) cone
-          (above-no (p .ensures) (p .ok) (c .before .before .before .if1 .left)) (below-yes (q .ensures) (q .ok) (c .if6 .taken));
+          (above-no (p .ensures) (p .ok) (c .before .before .before .if1 .left))
+          (below-yes (q .ensures) (q .ok) (c .if6 .taken));
     }
 
 dot-product-requires : tie.Need-dot-product-requires
 dot-product-requires c κs = search needs
 
+-- where no sign decided, both products are zero
+module _ (c : tie.After-dot-product) where
+  abbrev start : tie.Start
+  start = c .before .before .before .before .before .before .before
+
+  abbrev upper : tie.Else3
+  upper = c .before .before .before
+
+  p-zero : cross (vec (start .args .lo)) (vec (start .args .u)) ≡ pos 0
+  p-zero =
+      let p = upper .before .before .before .cross-product in
+      ≤≥ _ (above-no (p .ensures) (p .ok) (upper .before .if1 .left))
+      (below-no (p .ensures) (p .ok) (c .before .before .if5 .left))
+
+  q-zero : cross (vec (start .args .u)) (vec (start .args .hi)) ≡ pos 0
+  q-zero =
+      let q = upper .before .before .cross-product2 in
+      ≤≥ _ (above-no (q .ensures) (q .ok) (upper .if3 .left)) (below-no (q .ensures) (q .ok) (c .before .if6 .left))
+
 returns-7 : tie.Need-returns-7
 returns-7 c =
-    let start = c .before .before .before .before .before .before .before .before in
-    let p = c .before .before .before .before .before .before .before .cross-product in
-    let q = c .before .before .before .before .before .before .cross-product2 in
+    let last = c .before in
+    let dot = last .dot-product in
     record {
-      after = λ us cone. keep-along (vec (start .args .u)) cone
-          (≤≥ _ (above-no (p .ensures) (p .ok) (c .before .before .before .before .before .if1 .left)) (below-no (p .ensures) (p .ok) (c .before .before .before .if5 .left)))
-          (≤≥ _ (above-no (q .ensures) (q .ok) (c .before .before .before .before .if3 .left)) (below-no (q .ensures) (q .ok) (c .before .before .if6 .left)))
-          (above-yes (c .before .dot-product .ensures) (c .before .dot-product .ok) (c .if7 .taken));
+      after = λ us cone. keep-along (vec (start last .args .u)) cone (p-zero last) (q-zero last)
+          (above-yes (dot .ensures) (dot .ok) (c .if7 .taken));
     }
 
 returns-8 : tie.Need-returns-8
 returns-8 c =
-    let start = c .before .before .before .before .before .before .before .before in
-    let p = c .before .before .before .before .before .before .before .cross-product in
-    let q = c .before .before .before .before .before .before .cross-product2 in
+    let last = c .before in
+    let dot = last .dot-product in
     record {
-      after = λ us cone. against-along (vec (start .args .u)) cone
-          (≤≥ _ (above-no (p .ensures) (p .ok) (c .before .before .before .before .before .if1 .left)) (below-no (p .ensures) (p .ok) (c .before .before .before .if5 .left)))
-          (≤≥ _ (above-no (q .ensures) (q .ok) (c .before .before .before .before .if3 .left)) (below-no (q .ensures) (q .ok) (c .before .before .if6 .left)))
-          (above-no (c .before .dot-product .ensures) (c .before .dot-product .ok) (c .if7 .left));
+      after = λ us cone. against-along (vec (start last .args .u)) cone (p-zero last) (q-zero last)
+          (above-no (dot .ensures) (dot .ok) (c .if7 .left));
     }
 
 pub step-spec : {M : Type 1} → statement M

@@ -10,7 +10,8 @@ use Rattle.monotone.proofs.turn.Statement.{statement}
 use Rattle.monotone.proofs.turn.Tie as tie
 
 abbrev Inv-loop : tie.InvT-loop
-Inv-loop parent work₀ u n z₀ work z = Turning parent u z work₀ work × Only (length parent) (3 * length parent) work₀ work
+Inv-loop parent work₀ u n z₀ work z =
+    Turning parent u z work₀ work × Only (length parent) (3 * length parent) work₀ work
 
 abbrev μ-loop : tie.MeasureT-loop
 μ-loop parent work₀ u n z₀ work z = depth parent z
@@ -23,8 +24,9 @@ loop-holds c =
 turn-edge-requires : tie.Need-turn-edge-requires Inv-loop μ-loop
 turn-edge-requires c κs =
     let at = c .before .before in
-    let start = at .before .before .before in
-    (turning-edges (at .loop .inv .0) (at .loop .inv .1 .long) (start .pre .0 .edges), c .before .loop-test .taken, at .loop .inv .0 .inside)
+    let inv = at .loop .inv in
+    let known = at .before .before .before .pre in
+    (turning-edges (inv .0) (inv .1 .long) (known .0 .edges), c .before .loop-test .taken, inv .0 .inside)
 
 get-requires : tie.Need-get-requires Inv-loop μ-loop
 get-requires c κs =
@@ -47,10 +49,13 @@ loop-again c =
     let test = turned .before .before in
     let at = test .before in
     let start = at .before .before .before in
+    let in-args = start .args in
     let inv = at .loop .inv in (
-      subst⁻¹ (λ (z : ℕ). Turning (start .args .parent .now) (start .args .u) z (start .args .work .now) (turned .turn-edge .last .0))
+      subst⁻¹ (λ (z : ℕ).
+          Turning (in-args .parent .now) (in-args .u) z (in-args .work .now) (turned .turn-edge .last .0))
           (c .get .ensures .0)
-          (turning-step (start .pre .0 .tree) (start .pre .1) (test .loop-test .taken) (inv .0) (turned .turn-edge .ensures)),
+          (turning-step (start .pre .0 .tree) (start .pre .1) (test .loop-test .taken) (inv .0)
+          (turned .turn-edge .ensures)),
       only-trans (inv .1) (edge-only (inv .0 .inside) (turned .turn-edge .ensures)),
     )
 

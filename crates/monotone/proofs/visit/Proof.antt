@@ -34,14 +34,15 @@ grow-requires c κs =
     let parent = cone .before .before in
     let test = parent .before in
     let start = test .before .before .before .before .before in
-    let unknown = sym (test .before .get .ensures .0) ∙ test .if1 .left in (
-      start .pre .0 .edges,
-      start .pre .1 .some unknown,
-      start .pre .1 .inside,
-      subst⁻¹ (Formed (length (start .args .parent .now)))
+    let unknown = sym (test .before .get .ensures .0) ∙ test .if1 .left in
+    record {
+      edges = start .pre .0 .edges;
+      some = start .pre .1 .some unknown;
+      inside = start .pre .1 .inside;
+      formed = subst⁻¹ (Formed (length (start .args .parent .now)))
           (cone .get3 .ensures .0 ∙ ap (λ (p : ℕ). getD (start .args .work .now) p 0) (parent .get2 .ensures .0))
-          (start .pre .1 .formed unknown),
-    )
+          (start .pre .1 .formed unknown);
+    }
 
 put-requires : tie.Need-put-requires
 put-requires c κs = search needs
