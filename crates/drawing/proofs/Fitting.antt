@@ -1,7 +1,7 @@
 -- The test of refusal 8, node by node: the least node that does not fit.
 use mathlib.Core.Bool.{Bool, true, false, not, _&&_}
 use mathlib.Core.List.{List}
-use mathlib.Core.Path.{_≡_, refl, sym, ap, ap₂, subst⁻¹, _∙_}
+use mathlib.Core.Path.{_≡_, sym, ap, ap₂, subst⁻¹, _∙_}
 use Prim.Native.Nat.{ℕ, _+_, _*_, _^_, _≤_, _<_}
 use native.Mathlib.Nat.{mul-le-mul}
 use native.Mathlib.Omega.{arith}
@@ -12,7 +12,7 @@ use Rattle.laws.specs.Search.{least}
 use Rattle.laws.specs.SearchLaws.{least-is}
 use Rattle.laws.specs.Tests.{by-test, by-eq}
 use Rattle.table.specs.Numbering.{numbering}
-use Rattle.table.specs.Table.{parent, postNumber}
+use Rattle.table.specs.Table.{parent}
 use Rattle.slopes.specs.declared.Rule.{Rule}
 use Rattle.slopes.specs.declared.Slope.{Slope}
 use Rattle.slopes.specs.Slopes.{acrossOf, upOf, slopeAt}
@@ -38,8 +38,7 @@ module _ {P R W : List ℕ} (t : NumberedTree P R W) {v : ℕ} (above : 0 < v) (
   pub edge-number : {j : ℕ} → j ≡ getD W v 0 → (1 ≤ j) × (j < length P) × (length P ≤ 2 ^ 32)
   edge-number e =
       let n = numbering (t .tree) in
-      let is = t .numbers .last v inside in
-      (
+      let is = t .numbers .last v inside in (
         omega (arith, n .from-1 v inside),
         omega (arith, n .parent-later v above inside, n .to-n (parent P v) (t .tree .inside v inside)),
         omega (arith, t .few),
