@@ -1,21 +1,20 @@
 -- Refusals 1 to 10 in order, from what the tests say.
 use mathlib.Core.Bool.{Bool, not}
 use mathlib.Core.List.{List}
-use mathlib.Core.Option.{Option, none, some}
-use mathlib.Core.Path.{_≡_, refl, sym, ap, _∙_}
+use mathlib.Core.Path.{_≡_, sym, ap, _∙_}
 use Prim.Native.Nat.{ℕ, _≤_, _<_}
 use native.Mathlib.Omega.{arith}
 use lib.Dec.{leb, eqb}
 use lib.ListN.{length}
 use borrow.Author.Tests.{le-leb, lt-leb, eq-eqb, ne-eqb}
 use Rattle.laws.specs.Refusals.{refusal, orElse-first, orElse-second, refuse-yes, refuse-no, refuseLeast-yes, refuseLeast-no}
-use Rattle.laws.specs.Search.{least, Refusal, refuse, refuseLeast, _orElse_}
+use Rattle.laws.specs.Search.{least, refuse, refuseLeast, _orElse_}
 use Rattle.table.specs.declared.Limits.{Limits}
 use Rattle.table.specs.declared.Validity.{Validity}
 use Rattle.table.specs.declared.Validity.the-variants.{Accepted, Refused}
-use Rattle.table.specs.Table.{allLong, tableFault, validity}
+use Rattle.table.specs.Table.{validity}
 use Rattle.slopes.specs.declared.Rule.{Rule}
-use Rattle.drawing.specs.Drawing.{Drawing, lists, nodeFits, drawingFault}
+use Rattle.drawing.specs.Drawing.{Drawing, nodeFits, drawingFault}
 use Rattle.drawing.specs.Parts.{Prepared, Checked}
 use Rattle.drawing.proofs.Settling.{fault, no-fault, sized}
 

@@ -6,7 +6,7 @@ use native.Mathlib.Omega.{arith}
 use lib.ListN.{length, getD, set, length-set}
 use lib.Seq.{ext-getD}
 use Rattle.laws.specs.Regions.{read-set}
-use Rattle.table.specs.Numbering.{Numbered, numbering, number-at, root-last}
+use Rattle.table.specs.Numbering.{numbering, number-at, root-last}
 use Rattle.table.specs.Table.{parent, order, postNumber}
 use Rattle.table.specs.TableLaws.{Tree}
 use Rattle.slopes.specs.declared.Rule.{Rule}

@@ -1,14 +1,14 @@
 -- A call's outcome from what its parts say.
-use mathlib.Core.Bool.{Bool, true}
+use mathlib.Core.Bool.{Bool}
 use mathlib.Core.List.{List}
 use mathlib.Core.Option.{none, some}
-use mathlib.Core.Path.{_≡_, refl, sym, ap, subst, _∙_}
-use Prim.Native.Nat.{ℕ, _^_, _≤_, _<_}
+use mathlib.Core.Path.{_≡_, sym, ap, subst, _∙_}
+use Prim.Native.Nat.{ℕ, _^_, _<_}
 use native.Mathlib.Omega.{arith}
 use lib.ListN.{length}
 use Rattle.laws.specs.Refusals.{refusal, some-not-none, orElse-first}
 use Rattle.laws.specs.Search.{Refusal}
-use Rattle.table.specs.Acceptance.{Accepting, accepting, validity-accepted, validity-refused}
+use Rattle.table.specs.Acceptance.{accepting, validity-accepted, validity-refused}
 use Rattle.table.specs.declared.Limits.{Limits}
 use Rattle.table.specs.declared.Validity.{Validity}
 use Rattle.table.specs.declared.Validity.the-variants.{Accepted, Refused}
@@ -19,7 +19,7 @@ use Rattle.slopes.specs.declared.Rule.{Rule}
 use Rattle.drawing.specs.declared.Framed.{Framed}
 use Rattle.drawing.specs.declared.Framed.the-variants as framed
 use Rattle.drawing.specs.CallLaws.{settle-none, settle-some}
-use Rattle.drawing.specs.Drawing.{Drawing, Outcome, lists, fresh, frame, layout, Spared, Laid, Lengthened, Shortened}
+use Rattle.drawing.specs.Drawing.{Drawing, Outcome, lists, fresh, frame, layout, Laid, Lengthened, Shortened}
 use Rattle.drawing.specs.DrawingLaws.{three-long}
 use Rattle.drawing.specs.FreshLaws.{Roomy}
 use Rattle.drawing.specs.Parts.{Prepared, Sized, Blank}

@@ -124,8 +124,12 @@ module _ {P R W : List ℕ} (t : NumberedTree P R W) {v : ℕ} (lv : v < length 
           (λ ne. let off : postNumber P R w ≡ j + 1 → ⊥ = other x w lw ne in m .before w lw u (omega arith));
       after = λ w lw u. ap (λ (l : List ℕ). getD l w 0) q
           ∙ read-set Y z w (move a) (getD X w 0) (omega (arith, m .long, x .inside))
-          (λ s. absurd (omega (arith, x .number, ap (postNumber P R) s,
-          u (subst⁻¹ (λ k. under P v k ≡ true) s (x .under-v)))))
+          (λ s. absurd (omega (
+            arith,
+            x .number,
+            ap (postNumber P R) s,
+            u (subst⁻¹ (λ k. under P v k ≡ true) s (x .under-v)),
+          )))
           (λ ne. m .after w lw (λ g. omega (arith, u g)));
     }
 

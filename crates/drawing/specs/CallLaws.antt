@@ -13,24 +13,22 @@ use mathlib.Core.List.{List}
 use mathlib.Core.Logic.{_⊎_, inl, inr}
 use mathlib.Core.Option.{Option, none, some}
 use mathlib.Core.Path.{_≡_, refl, sym, ap, ap₂, subst, subst⁻¹, _∙_}
-use Prim.Native.Nat.{ℕ, _+_, _-_, _*_, _≤_, _<_}
+use Prim.Native.Nat.{ℕ, _≤_, _<_}
 use native.Mathlib.Omega.{arith}
-use lib.Dec.{ltb, leb, eqb}
+use lib.Dec.{ltb, leb}
 use lib.ListN.{length, getD}
-use borrow.Author.Tests.{ltb-true, ltb-false, lt-ltb, le-ltb, lt-leb, leb-false, eqb-false, ne-eqb, not-false}
+use borrow.Author.Tests.{ltb-false, lt-ltb, le-ltb, lt-leb, leb-false, eqb-false, ne-eqb, not-false}
 use Rattle.laws.specs.Refusals.{refusal, orElse-second, orElse-none, refuse-no, refuse-none, refuseLeast-no, refuseLeast-none}
 use Rattle.laws.specs.Search.{least, Refusal, refuse, refuseLeast, _orElse_}
-use Rattle.laws.specs.SearchLaws.{least-below, least-found, least-is, least-none}
-use Rattle.laws.specs.Tests.{by-lt, neither, neither-is, either-first, either-second}
+use Rattle.laws.specs.SearchLaws.{least-found, least-is, least-none}
+use Rattle.laws.specs.Tests.{neither, neither-is, either-first, either-second}
 use Rattle.table.specs.Acceptance.{Accepting, accepting}
 use Rattle.table.specs.declared.Limits.{Limits}
 use Rattle.table.specs.Table.{allLong, tableFault}
 use Rattle.table.specs.TableLaws.{Tree}
 use Rattle.slopes.specs.declared.Rule.{Rule}
-use Rattle.slopes.specs.Slopes.{acrossOf, upOf}
-use Rattle.drawing.specs.declared.Framed.{Framed}
 use Rattle.drawing.specs.declared.Framed.the-variants.{Frame, Refused}
-use Rattle.drawing.specs.Drawing.{Drawing, Outcome, lists, edge, fresh, frame, nodeFits, stretched, longer, shorter}
+use Rattle.drawing.specs.Drawing.{Drawing, Outcome, lists, fresh, frame, nodeFits, longer, shorter}
 use Rattle.drawing.specs.Drawing.{beyond, settle, drawingFault, layout, lengthen, shorten}
 use Rattle.drawing.specs.DrawingLaws.{Drawn, all-three, fits-drawn, drawn-fits}
 use Rattle.drawing.specs.FreshLaws.{Roomy, fresh-drawn}

@@ -5,7 +5,6 @@
 use mathlib.Core.List.{List, [], _∷_, map}
 use mathlib.Core.Path.{_≡_, refl}
 use Prim.Native.Nat.{ℕ}
-use lib.ListN.{set}
 use Rattle.laws.specs.Search.{count, least, tabulate}
 use Rattle.table.specs.Table.{large, climb, leads, isChild, children, isChildAt, childAt, under, forest, postorder}
 use Rattle.table.specs.Table.{place, subtree, order, postNumber, strayParent, badRank, adrift, allLong}

@@ -5,8 +5,8 @@
 --   fresh-bounds      == document 01's bounds of a fresh sheet
 --   fresh-drawn       == a fresh drawing is a drawing
 use mathlib.Core.List.{List}
-use mathlib.Core.Path.{_≡_, refl, sym, ap, _∙_}
-use Prim.Native.Nat.{ℕ, zero, suc, _+_, _-_, _*_, _/_, _^_, _≤_, _<_}
+use mathlib.Core.Path.{_≡_, ap}
+use Prim.Native.Nat.{ℕ, suc, _+_, _-_, _*_, _/_, _^_, _≤_, _<_}
 use native.Mathlib.Nat.{mul-le-mul, pow-le-pow-right}
 use native.Mathlib.Omega.{arith}
 use lib.ListN.{length, getD, length-replicate, getD-replicate}
@@ -23,7 +23,7 @@ use Rattle.slopes.specs.SlopeLaws.{levelsFor-least, acrossBound, upBound, acros
 use Rattle.slopes.specs.Slopes.{acrossOf, upOf, levelsFor, slopeAt}
 use Rattle.drawing.specs.Drawing.{edge, pathSum, freshPlaces, fresh}
 use Rattle.drawing.specs.DrawingLaws.{Coordinate, Drawn}
-use Rattle.drawing.specs.PathLaws.{Adds, adds-cong, path-adds, path-cong, path-bound}
+use Rattle.drawing.specs.PathLaws.{adds-cong, path-adds, path-cong, path-bound}
 
 ------------------------------------------------------------------------
 -- Bounds

@@ -10,15 +10,14 @@ use mathlib.Core.List.{List}
 use mathlib.Core.Path.{_≡_, refl, sym, ap, subst, subst⁻¹, _∙_}
 use Prim.Native.Nat.{ℕ, zero, suc, _+_, _-_, _≤_, _<_}
 use native.Mathlib.Omega.{arith}
-use lib.Dec.{eqb}
 use lib.ListN.{length, getD}
-use borrow.Author.Tests.{eq-eqb, ne-eqb}
+use borrow.Author.Tests.{ne-eqb}
 use Rattle.laws.specs.Search.{tabulate}
 use Rattle.laws.specs.SearchLaws.{getD-tabulate}
 use Rattle.laws.specs.Sums.{sum, sum-term}
 use Rattle.laws.specs.Tests.{by-eq}
 use Rattle.table.specs.Ancestry.{climb-zero, climb-suc, climb-shift, climb-inside, under-steps, under-inside}
-use Rattle.table.specs.Numbering.{Numbering, numbering, root-last}
+use Rattle.table.specs.Numbering.{numbering, root-last}
 use Rattle.table.specs.Table.{parent, climb, under, postNumber}
 use Rattle.table.specs.TableLaws.{Tree}
 use Rattle.drawing.specs.Drawing.{sumUp, pathSum}

@@ -6,15 +6,14 @@
 --   longer-stretch, shorter-stretch == lengthen takes s to t, and shorten t to s
 --   stretch-drawn, unstretch-drawn  == either is a drawing if the other is
 --   stretch-one, unstretch-one      == either is determined by the other
-use mathlib.Core.Bool.{Bool, true, false, cond}
+use mathlib.Core.Bool.{true, false, cond}
 use mathlib.Core.List.{List}
-use mathlib.Core.Path.{_≡_, refl, sym, ap, subst, subst⁻¹, _∙_}
+use mathlib.Core.Path.{_≡_, refl, sym, ap, subst⁻¹, _∙_}
 use Prim.Native.Nat.{ℕ, _+_, _-_, _*_, _≤_, _<_}
 use native.Mathlib.Nat.{mul-le-mul-right}
 use native.Mathlib.Omega.{arith}
-use lib.ListN.{length, getD, set, length-set}
+use lib.ListN.{length, getD, length-set}
 use lib.Seq.{getD-set-same, getD-set-other, ext-getD}
-use Rattle.laws.specs.Regions.{read-set}
 use Rattle.laws.specs.SearchLaws.{length-tabulate, getD-tabulate}
 use Rattle.laws.specs.Tests.{by-test, by-eq, differ}
 use Rattle.table.specs.Ancestry.{under-refl, under-parent, under-trans, under-antisym, under-root, under-on}

@@ -1,7 +1,5 @@
 -- The nodes with numbers above j are drawn.
-use Prim.Native.Nat.{_≤_}
 use native.Mathlib.Omega.{arith}
-use lib.ListN.{length}
 use mathlib.Core.Path.{sym, _∙_}
 use Rattle.drawing.specs.Drawing.{lent}
 use Rattle.drawing.proofs.Laying.{Laying, laying-start, next-node, laying-x, laying-y, laying-step, laying-end}

@@ -1,8 +1,8 @@
 -- The places of the subtree up to number j are moved.
 use mathlib.Core.Path.{ap, _∙_}
-use Prim.Native.Nat.{ℕ, _≤_, _-_}
+use Prim.Native.Nat.{ℕ, _-_}
 use native.Mathlib.Omega.{arith}
-use lib.ListN.{length, getD, set}
+use lib.ListN.{set}
 use Rattle.drawing.specs.Parts.{by}
 use Rattle.drawing.proofs.Subtrees.{Moving, first-some, last-most, visit, moving-start, moving-here, moving-step, moving-end, movable-fits}
 use Rattle.drawing.proofs.move_subtree.Statement.{statement}

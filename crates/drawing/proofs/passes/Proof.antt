@@ -1,9 +1,6 @@
 -- The places of the subtree up to number j are within the limit.
-use mathlib.Core.Path.{sym}
-use Prim.Native.Nat.{_≤_, _-_}
+use Prim.Native.Nat.{_-_}
 use native.Mathlib.Omega.{arith}
-use lib.ListN.{length, getD}
-use mathlib.Core.Path.{_≡_}
 use Rattle.drawing.proofs.Subtrees.{Clear, first-some, last-most, visit, clear-start, clear-step, clear-end, passes-yes}
 use Rattle.drawing.proofs.passes.Statement.{statement}
 use Rattle.drawing.proofs.passes.Tie as tie

@@ -1,8 +1,7 @@
 -- Both coordinates of the subtree are moved by the count times the slope of v's edge, and the count goes to its times.
-use mathlib.Core.Path.{sym, _∙_}
 use native.Mathlib.Omega.{arith}
 use Rattle.slopes.specs.Slopes.{acrossOf, upOf}
-use Rattle.drawing.specs.Drawing.{lent, frame}
+use Rattle.drawing.specs.Drawing.{frame}
 use Rattle.drawing.proofs.Fitting.{product-fits, edge-number, edge-slope}
 use Rattle.drawing.proofs.Stretching.{movable-at, times-fit, stretched-is}
 use borrow.Author.Needs.{needs}
