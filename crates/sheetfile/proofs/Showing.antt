@@ -1,0 +1,93 @@
+-- An accepted file is laid out under both rules, and the text is that of the two fresh sheets.
+use mathlib.Core.Bool.{true}
+use mathlib.Core.List.{List}
+use mathlib.Core.Option.{none}
+use mathlib.Core.Path.{_≡_, refl, sym, ap, ap₂, subst, _∙_}
+use Prim.Native.Nat.{ℕ, _+_, _*_, _≤_, _<_}
+use native.Mathlib.Omega.{arith}
+use lib.ListN.{length}
+use Rattle.laws.specs.Refusals.{orElse-second}
+use Rattle.laws.specs.SearchLaws.{length-tabulate}
+use Rattle.table.specs.Acceptance.{shape-fits}
+use Rattle.table.specs.declared.Limits.{Limits}
+use Rattle.table.specs.Table.{allLong, large, shapeFault, treeFault, tableFault}
+use Rattle.slopes.specs.declared.Rule.{Rule}
+use Rattle.slopes.specs.declared.Rule.the-variants.{Steep, Balanced}
+use Rattle.drawing.specs.declared.Framed.{Framed}
+use Rattle.drawing.specs.CallLaws.{settle-none}
+use Rattle.drawing.specs.Drawing.{Drawing, Outcome, lists, lent, fresh, freshPlaces, layout, Laid}
+use Rattle.drawing.specs.DrawingLaws.{all-three}
+use Rattle.treefile.specs.Bytes.{Read}
+use Rattle.treefile.specs.declared.Loaded.{Loaded}
+use Rattle.treefile.specs.TreeFile.{statedNodes, fileParents, fileRanks}
+use Rattle.text.specs.Text.{Places, sheetOf, Appended}
+use Rattle.text.specs.TextLaws.{appended-is}
+use Rattle.text.specs.Writing.{placesOf, Lines}
+use Rattle.sheetfile.specs.SheetFile.{sheetLimits, fileFault, placesOfTable, sheetText, lotsIn}
+use Rattle.sheetfile.specs.SheetFileLaws.{Opening, opening, parents-long, ranks-long, Taken, accepted-text}
+
+module _ {B X Y : List ℕ} (t : Taken B X Y) where
+  opened : Opening B
+  opened = opening B (t .fault)
+
+  table-long : length X ≡ statedNodes B
+  table-long = ap length (t .parents) ∙ parents-long B
+
+  pub fits-large : (s : Drawing) (work : ℕ) → length (s .times) ≡ lotsIn (length B) → length (s .x) ≡ lotsIn (length B)
+      → length (s .y) ≡ lotsIn (length B) → work ≡ 4 * lotsIn (length B)
+      → tableFault large X Y (allLong (length X) (lists s)) work ≡ none
+  unfolding tableFault
+  fits-large s work et ex ey ew =
+      let n : lotsIn (length B) ≡ length X = opened .lots ∙ sym table-long in
+      orElse-second (shapeFault large X Y (allLong (length X) (lists s)) work) (treeFault X Y) (shape-fits (record {
+        some = omega (arith, table-long, opened .some);
+        few = omega (arith, table-long, opened .few);
+        ranks = ap length (t .ranks) ∙ ranks-long B ∙ sym table-long;
+        others = all-three (length X) s (et ∙ n) (ex ∙ n) (ey ∙ n);
+        work-long = ew ∙ ap (λ (k : ℕ). 4 * k) n;
+      }))
+      ∙ ap₂ treeFault (t .parents) (t .ranks) ∙ opened .tree
+
+  pub drawn-fresh : {rule : Rule} {s u : Drawing} {W Z : List ℕ} {r : Framed} → Laid large X Y rule s W u Z r
+      → length (s .times) ≡ lotsIn (length B) → length (s .x) ≡ lotsIn (length B)
+      → length (s .y) ≡ lotsIn (length B) → length W ≡ 4 * lotsIn (length B) → u ≡ fresh X Y rule
+  unfolding layout
+  drawn-fresh {rule} {s} {u} {W} l et ex ey ew =
+      ap (λ (o : Outcome). o .drawing)
+      (l .outcome ∙ settle-none s (fresh X Y rule) _ (fits-large s (length W) et ex ey ew))
+
+  x-long : (rule : Rule) → length (fresh X Y rule .x) ≡ statedNodes B
+  unfolding fresh freshPlaces
+  x-long rule = length-tabulate (length X) _ ∙ table-long
+
+  y-long : (rule : Rule) → length (fresh X Y rule .y) ≡ statedNodes B
+  unfolding fresh freshPlaces
+  y-long rule = length-tabulate (length X) _ ∙ table-long
+
+  module _ {S T x y u w : List ℕ} (steep : lent S x y ≡ fresh X Y Steep) (balanced : lent T u w ≡ fresh X Y Balanced) where
+    steep-long : length x ≡ statedNodes B
+    steep-long = ap (λ (d : Drawing). length (d .x)) steep ∙ x-long Steep
+
+    pub both-lines : {A : List ℕ} → 30 + 55 * lotsIn (length B) ≤ length A
+        → Lines (placesOf x y u w) (length x) A 17
+    both-lines room = record {
+      steep-x = refl;
+      steep-y = ap (λ (d : Drawing). length (d .y)) steep ∙ y-long Steep ∙ sym steep-long;
+      balanced-x = ap (λ (d : Drawing). length (d .x)) balanced ∙ x-long Balanced ∙ sym steep-long;
+      balanced-y = ap (λ (d : Drawing). length (d .y)) balanced ∙ y-long Balanced ∙ sym steep-long;
+      few = omega (arith, steep-long, opened .few);
+      room = omega (arith, room, steep-long, opened .lots);
+    }
+
+    pub both-shown : {A C : List ℕ} {r : ℕ} → Appended A C 0 r (sheetOf (placesOf x y u w) (length x))
+        → Appended A C 0 r (sheetText B)
+    unfolding placesOfTable
+    both-shown a =
+        appended-is a
+        ((λ i. sheetOf (placesOf (steep i .x) (steep i .y) (balanced i .x) (balanced i .y)) (steep-long i))
+        ∙ sym (accepted-text t))
+
+-- the reader was called with the program's limits
+pub at-limits : {L : Limits} {B P R W X Y Z : List ℕ} {r : Loaded} → L ≡ sheetLimits → Read L B P R W X Y Z r
+    → Read sheetLimits B P R W X Y Z r
+at-limits {B = B} {P} {R} {W} {X} {Y} {Z} {r} e d = subst (λ (L : Limits). Read L B P R W X Y Z r) e d

@@ -1,0 +1,24 @@
+-- By the length alone.
+use native.Mathlib.Omega.{arith}
+use Rattle.sheetfile.specs.SheetFile.{lotsIn}
+use borrow.Author.Needs.{needs}
+use Rattle.sheetfile.proofs.lots_in.Statement.{statement}
+use Rattle.sheetfile.proofs.lots_in.Tie as tie
+
+returns : tie.Need-returns
+unfolding lotsIn
+returns c = omega (arith, c .if1 .taken)
+
+sub-n : tie.Need-sub-n
+sub-n c = search needs
+
+returns-2 : tie.Need-returns-2
+unfolding lotsIn
+returns-2 c = omega (arith, c .if2 .taken)
+
+returns-3 : tie.Need-returns-3
+unfolding lotsIn
+returns-3 c = omega (arith, c .if2 .left)
+
+pub lots-in-spec : {M : Type 1} → statement M
+lots-in-spec = tie.close (tie.spec returns sub-n returns-2 returns-3)

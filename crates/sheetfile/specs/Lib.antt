@@ -1,0 +1,2 @@
+pub mod SheetFile
+pub mod SheetFileLaws

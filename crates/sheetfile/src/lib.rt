@@ -1,0 +1,66 @@
+// From a tree file's bytes to the text that the program `sheet` prints.
+use table::Limits;
+use treefile::read_tree_within;
+use treefile::Loaded;
+use drawing::layout;
+use slopes::Rule;
+use text::put_refusal;
+use text::put_sheet;
+ghost use mathlib.Core.Path.{_≡_};
+ghost use lib.ListN.{length};
+ghost use Rattle.text.specs.Text.{Appended};
+ghost use Rattle.sheetfile.specs.SheetFile.{sheetLimits, lotsIn, sheetText, Fitting, Ample};
+
+// The program's limits.
+fn sheet_limits() -> Limits
+    ensures { λ r. ⌜ r ≡ sheetLimits ⌝ }
+{
+    Limits {
+        nodes: 4096,
+        surplus: 14,
+        place: 2147483647,
+        beyond: 11,
+    }
+}
+
+// How many lots the file can hold, and at most 4,096.
+fn lots_in(bytes: &[u8]) -> usize
+    ensures { λ r. ⌜ r ≡ lotsIn (length (now (bytes .entry))) ⌝ }
+{
+    if bytes.len() < 4 {
+        return 0;
+    }
+    let n = (bytes.len() - 4) / 8;
+    if n < 4096 {
+        n
+    } else {
+        4096
+    }
+}
+
+// The text for the file, with lists that fit it.
+fn fitted_text(
+    bytes: &[u8],
+    parent: &mut [u32],
+    rank: &mut [u32],
+    times: &mut [u32],
+    x: &mut [u32],
+    y: &mut [u32],
+    u: &mut [u32],
+    w: &mut [u32],
+    work: &mut [u32],
+    out: &mut [u8],
+) -> usize
+    requires { ⌜ Fitting (now bytes) (now parent) (now rank) (now times) (now x) (now y) (now u) (now w) (now work) (now out) ⌝ }
+    ensures { λ r. ⌜ Appended (now (out .entry)) (now (out .exit)) 0 r (sheetText (now (bytes .entry))) ⌝ }
+{
+    let limits = sheet_limits();
+    match read_tree_within(limits, bytes, parent, rank, work) {
+        Loaded::Refused(number, lot) => put_refusal(out, number, lot),
+        Loaded::Table(_) => {
+            layout(Rule::Steep, parent, rank, times, x, y, work);
+            layout(Rule::Balanced, parent, rank, times, u, w, work);
+            put_sheet(out, x, y, u, w)
+        }
+    }
+}

@@ -1,0 +1,33 @@
+-- The number, then the byte.
+use native.Mathlib.Omega.{arith}
+use Rattle.text.specs.Text.{field}
+use Rattle.text.specs.TextLaws.{length-decimal, appended-on}
+use Rattle.text.proofs.put_field.Statement.{statement}
+use Rattle.text.proofs.put_field.Tie as tie
+
+put-decimal-requires : tie.Need-put-decimal-requires
+put-decimal-requires c κs =
+    let at-entry = c .before .before in
+    (omega (arith, at-entry .pre), at-entry .pre .1)
+
+put-byte-requires : tie.Need-put-byte-requires
+put-byte-requires c κs =
+    let at-put-decimal = c .before .before .before in
+    let at-entry = at-put-decimal .before .before .before in
+    omega (arith, at-entry .pre, at-put-decimal .put-decimal .ensures .ends, at-put-decimal .put-decimal .ensures .long, length-decimal (at-entry .args .n))
+
+same-length : tie.Need-same-length
+same-length c =
+    let at-put-byte = c .before .before in
+    let at-put-decimal = at-put-byte .before .before .before .before in
+    appended-on (at-put-decimal .put-decimal .ensures) (at-put-byte .put-byte .ensures) .long
+
+returns : tie.Need-returns
+unfolding field
+returns c =
+    let at-put-byte = c .before .before in
+    let at-put-decimal = at-put-byte .before .before .before .before in
+    appended-on (at-put-decimal .put-decimal .ensures) (at-put-byte .put-byte .ensures)
+
+pub put-field-spec : {M : Type 1} → statement M
+put-field-spec = tie.close (tie.spec put-decimal-requires put-byte-requires same-length returns)

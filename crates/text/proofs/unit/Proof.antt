@@ -1,0 +1,44 @@
+-- The powers of ten are taken one after the other, up to n.
+use Prim.Native.Nat.{_-_}
+use native.Mathlib.Omega.{arith}
+use Rattle.text.proofs.Spelling.{Climbing, climbing-start, climbing-step, climbing-end, climbing-low, power-positive}
+use Rattle.text.proofs.unit.Statement.{statement}
+use Rattle.text.proofs.unit.Tie as tie
+
+abbrev Inv-loop : tie.InvT-loop
+Inv-loop n d₀ d = Climbing n d
+
+abbrev μ-loop : tie.MeasureT-loop
+μ-loop n d₀ d = n - d
+
+loop-holds : tie.Need-loop-holds Inv-loop μ-loop
+loop-holds c = climbing-start _
+
+mul-loop : tie.Need-mul-loop Inv-loop μ-loop
+mul-loop c =
+    let at-entry = c .before in
+    omega (arith, at-entry .pre, climbing-low (c .loop .inv))
+
+mul-d : tie.Need-mul-d Inv-loop μ-loop
+mul-d c =
+    let at-entry = c .before .before in
+    omega (arith, at-entry .pre)
+
+loop-less : tie.Need-loop-less Inv-loop μ-loop
+loop-less c =
+    let at-loop = c .before in
+    omega (arith, power-positive (at-loop .loop .inv .power), c .loop-test .taken)
+
+loop-again : tie.Need-loop-again Inv-loop μ-loop
+loop-again c =
+    let at-loop = c .before in
+    climbing-step (at-loop .loop .inv) (c .loop-test .taken)
+
+returns : tie.Need-returns Inv-loop μ-loop
+returns c =
+    let at-loop = c .before in
+    climbing-end (at-loop .loop .inv) (omega (arith, c .loop-test .left))
+
+pub unit-spec : {M : Type 1} → statement M
+unit-spec =
+    tie.close (tie.spec Inv-loop μ-loop loop-holds mul-loop mul-d loop-less loop-again returns)
