@@ -22,7 +22,7 @@ pub fn page(sheet: &Sheet, path: Option<(u32, u32, Direction)>, to_scale: bool) 
         (MARGIN + f64::from(x) * scale.0, PAGE.1 - MARGIN - f64::from(y) * scale.1)
     };
     let n = sheet.tree().lots() as u32;
-    let dot = (60.0 / f64::from(n).sqrt()).clamp(1.0, 5.0);
+    let dot = (30.0 / f64::from(n).sqrt()).clamp(0.8, 5.0);
     let mut svg = String::new();
     let w = &mut svg;
     line(w, &format!("<svg xmlns=\"http://www.w3.org/2000/svg\" viewBox=\"0 0 {} {}\" font-family=\"sans-serif\">", PAGE.0, PAGE.1));
@@ -89,8 +89,8 @@ fn highlight(
     // rising means a positive product with (d, e): on a page with two scales that is a direction divided by them
     let (dx, dy) = (f64::from(along.d) / scale.0, -f64::from(along.e) / scale.1);
     let length = dx.hypot(dy);
-    let (dx, dy) = (36.0 * dx / length, 36.0 * dy / length);
-    let (cx, cy) = (PAGE.0 - MARGIN - 20.0, 40.0);
+    let (dx, dy) = (30.0 * dx / length, 30.0 * dy / length);
+    let (cx, cy) = (PAGE.0 - MARGIN - 20.0, 26.0);
     let (tip, left, right) = (
         (cx + dx / 2.0, cy + dy / 2.0),
         (cx + dx / 4.0 - dy / 6.0, cy + dy / 4.0 + dx / 6.0),
@@ -102,14 +102,14 @@ fn highlight(
     ));
 }
 
-/// The number of each lot whose label meets no label before it.
+/// The number of each lot whose label meets no label before it: to the lower right, where no edge of the lot goes.
 fn numbers(w: &mut String, n: u32, at: &dyn Fn(u32) -> (f64, f64), dot: f64) {
     let size = if n <= 40 { 14.0 } else { 9.0 };
     let mut taken = std::collections::HashSet::new();
     line(w, &format!("<g fill=\"#000\" font-size=\"{size}\">"));
     for v in 0..n {
         let (x, y) = at(v);
-        let (x, y) = (x + dot + 2.0, y - dot - 1.0);
+        let (x, y) = (x + dot + 1.0, y + 0.8 * size + 1.0);
         let long = v.to_string().len() as f64 * size * 0.62;
         let cells = |from: f64, length: f64, cell: f64| (from / cell) as i64..=((from + length) / cell) as i64;
         let box_of: Vec<(i64, i64)> = cells(x, long, 4.0)
