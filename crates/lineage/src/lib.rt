@@ -12,7 +12,7 @@ ghost use Prim.Native.Nat.{_^_, _<_};
 ghost use lib.IntN.{pos};
 ghost use lib.ListN.{length};
 ghost use Rattle.table.specs.Table.{large, checked};
-ghost use Rattle.drawing.specs.Drawing.{lent, Laid};
+ghost use Rattle.drawing.specs.Drawing.{lent, Laid, Lengthened, Shortened};
 ghost use Rattle.direction.specs.Direction.{Directed};
 ghost use Rattle.monotone.specs.Monotone.{Says, Untouched};
 ghost use Rattle.treefile.specs.Bytes.{Read, Wrote};
@@ -124,6 +124,74 @@ pub extern "C" fn lineage_layout(
         return false;
     }
     let answer = drawing::layout(rule_of(balanced), parent, rank, times, x, y, work);
+    put_framed(reply, answer);
+    true
+}
+
+// Makes an edge longer: {1, width, height}, or {0, number, node} where it is refused.
+#[no_mangle]
+pub extern "C" fn lineage_lengthen(
+    balanced: bool,
+    parent: &[u32],
+    rank: &[u32],
+    times: &mut [u32],
+    x: &mut [u32],
+    y: &mut [u32],
+    work: &mut [u32],
+    lot: u32,
+    count: u32,
+    reply: &mut [i64],
+) -> bool
+    ensures { λ b. ⌜ Exported (Lengthened large (now (parent .entry)) (now (rank .entry)) (ruleOf balanced) (lent (now (times .entry)) (now (x .entry)) (now (y .entry))) (now (work .entry)) lot count (lent (now (times .exit)) (now (x .exit)) (now (y .exit))) (now (work .exit))) framedReply ((lent (now (times .exit)) (now (x .exit)) (now (y .exit)) ≡ lent (now (times .entry)) (now (x .entry)) (now (y .entry))) × (now (work .exit) ≡ now (work .entry))) (now (reply .entry)) (now (reply .exit)) b ⌝ }
+{
+    if reply.len() != 3 {
+        return false;
+    }
+    let answer = drawing::lengthen(
+        rule_of(balanced),
+        parent,
+        rank,
+        times,
+        x,
+        y,
+        work,
+        lot,
+        count,
+    );
+    put_framed(reply, answer);
+    true
+}
+
+// Makes an edge shorter: {1, width, height}, or {0, number, node} where it is refused.
+#[no_mangle]
+pub extern "C" fn lineage_shorten(
+    balanced: bool,
+    parent: &[u32],
+    rank: &[u32],
+    times: &mut [u32],
+    x: &mut [u32],
+    y: &mut [u32],
+    work: &mut [u32],
+    lot: u32,
+    count: u32,
+    reply: &mut [i64],
+) -> bool
+    ensures { λ b. ⌜ Exported (Shortened large (now (parent .entry)) (now (rank .entry)) (ruleOf balanced) (lent (now (times .entry)) (now (x .entry)) (now (y .entry))) (now (work .entry)) lot count (lent (now (times .exit)) (now (x .exit)) (now (y .exit))) (now (work .exit))) framedReply ((lent (now (times .exit)) (now (x .exit)) (now (y .exit)) ≡ lent (now (times .entry)) (now (x .entry)) (now (y .entry))) × (now (work .exit) ≡ now (work .entry))) (now (reply .entry)) (now (reply .exit)) b ⌝ }
+{
+    if reply.len() != 3 {
+        return false;
+    }
+    let answer = drawing::shorten(
+        rule_of(balanced),
+        parent,
+        rank,
+        times,
+        x,
+        y,
+        work,
+        lot,
+        count,
+    );
     put_framed(reply, answer);
     true
 }

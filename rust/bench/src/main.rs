@@ -3,7 +3,23 @@
 //!     cargo run --release -p bench [-- SAMPLES]
 
 use lineage as _;
-use std::time::Instant;
+
+/// The thread's own time in microseconds, which other programs on the machine do not count in.
+fn now() -> f64 {
+    #[repr(C)]
+    struct Time {
+        seconds: i64,
+        nanoseconds: i64,
+    }
+    extern "C" {
+        fn clock_gettime(clock: i32, time: *mut Time) -> i32;
+    }
+    const CLOCK_THREAD_CPUTIME_ID: i32 = 3;
+    let mut time = Time { seconds: 0, nanoseconds: 0 };
+    // SAFETY: the struct is the C library's on 64-bit Linux.
+    assert_eq!(unsafe { clock_gettime(CLOCK_THREAD_CPUTIME_ID, &mut time) }, 0);
+    time.seconds as f64 * 1e6 + time.nanoseconds as f64 / 1e3
+}
 
 macro_rules! calls {
     ($module:ident, $layout:ident, $lengthen:ident, $shorten:ident, $direction:ident, $check:ident, $read:ident, $write:ident) => {
@@ -91,9 +107,9 @@ fn pair(
     let mut replies = Vec::new();
     for i in 0..2 * samples + 4 {
         let (call, times) = if i % 2 == 0 { (first, &mut a) } else { (second, &mut b) };
-        let start = Instant::now();
+        let start = now();
         call(l);
-        let took = start.elapsed().as_secs_f64() * 1e6;
+        let took = now() - start;
         replies.push(l.reply);
         undo(l);
         if i >= 4 {

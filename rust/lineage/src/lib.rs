@@ -169,7 +169,7 @@ impl Tree {
     /// let bytes = tree.to_bytes();
     /// assert_eq!(bytes, [2, 0, 0, 0, 0, 0, 0, 0, 0, 0, 0, 0, 0, 0, 0, 0, 0, 0, 0, 0]);
     /// assert_eq!(lineage::Tree::from_bytes(&bytes)?, tree);
-    /// assert_eq!(lineage::Tree::from_bytes(&bytes[1..]).unwrap_err().number, 17);
+    /// assert_eq!(lineage::Tree::from_bytes(&bytes[..19]).unwrap_err().number, 17);
     /// # Ok::<(), lineage::Refused>(())
     /// ```
     pub fn from_bytes(bytes: &[u8]) -> Result<Tree, Refused> {

@@ -112,7 +112,8 @@ fn every_small_tree() {
         }
     }
     println!("every_small_tree: {trees} tables accepted");
-    assert!(trees > 1000);
+    // shapes of ordered trees (1, 1, 2, 5, 14) times the orders of the lots below the root (1, 1, 2, 6, 24)
+    assert_eq!(trees, 1 + 1 + 4 + 30 + 336);
 }
 
 #[test]
