@@ -5,8 +5,8 @@ use lib.ListN.{length}
 use borrow.Author.Tests.{not-true, not-false}
 use Rattle.drawing.specs.Drawing.{lent}
 use Rattle.drawing.proofs.Fitting.{Fitting, fitting-root, fitting-start, fitting-step, fitting-not, fitting-end}
-use Rattle.drawing.proofs.misfit.Statement.{statement}
-use Rattle.drawing.proofs.misfit.Tie as tie
+use Rattle.drawing.proofs.first_misfit.Statement.{statement}
+use Rattle.drawing.proofs.first_misfit.Tie as tie
 
 abbrev Inv-loop : tie.InvT-loop
 Inv-loop limit rule parent rank times x y work n root v₀ v = Fitting limit parent rank rule (lent times x y) v
@@ -15,9 +15,7 @@ abbrev μ-loop : tie.MeasureT-loop
 μ-loop limit rule parent rank times x y work n root v₀ v = length parent - v
 
 root-fits-requires : tie.Need-root-fits-requires Inv-loop μ-loop
-root-fits-requires c κs =
-    let at-entry = c .before .before .before .before .before .before in
-    (omega (arith, at-entry .pre .numbered .tree .some, at-entry .pre .times), omega (arith, at-entry .pre .numbered .tree .some, at-entry .pre .x), omega (arith, at-entry .pre .numbered .tree .some, at-entry .pre .y))
+root-fits-requires c κs = omega arith
 
 returns : tie.Need-returns Inv-loop μ-loop
 returns c =
@@ -62,8 +60,8 @@ returns-3 c =
     let at-loop = c .before in
     fitting-end (at-loop .loop .inv) (c .loop-test .left)
 
-pub misfit-spec : {M : Type 1} → statement M
-misfit-spec =
+pub first-misfit-spec : {M : Type 1} → statement M
+first-misfit-spec =
     tie.close
     (tie.spec
     Inv-loop
