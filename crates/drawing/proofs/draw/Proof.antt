@@ -61,7 +61,8 @@ put-requires-4 c κs =
     let at-get = c .before .before .before in
     let at-loop-test = at-get .before in
     let at-loop = at-loop-test .before in
-    (omega (arith, at-loop .loop .inv .times .long, laying-node (at-loop .loop .inv) (at-loop-test .loop-test .taken) (at-get .get .ensures .0) .inside), omega arith)
+    let inside = laying-node (at-loop .loop .inv) (at-loop-test .loop-test .taken) (at-get .get .ensures .0) .inside in
+    (omega (arith, at-loop .loop .inv .times .long), omega arith)
 
 hang-requires : tie.Need-hang-requires Inv-loop μ-loop
 hang-requires c κs =
@@ -70,7 +71,8 @@ hang-requires c κs =
     let at-get = at-get2 .before in
     let at-loop-test = at-get .before in
     let at-loop = at-loop-test .before in
-    laying-x (at-loop .loop .inv) (at-loop-test .loop-test .taken) (at-get .get .ensures .0) (at-get2 .get2 .ensures .0) (at-slope-at .slope-at .ensures)
+    laying-x (at-loop .loop .inv) (at-loop-test .loop-test .taken) (at-get .get .ensures .0) (at-get2 .get2 .ensures .0)
+    (at-slope-at .slope-at .ensures)
 
 hang-requires-2 : tie.Need-hang-requires-2 Inv-loop μ-loop
 hang-requires-2 c κs =
@@ -79,7 +81,8 @@ hang-requires-2 c κs =
     let at-get = at-get2 .before in
     let at-loop-test = at-get .before in
     let at-loop = at-loop-test .before in
-    laying-y (at-loop .loop .inv) (at-loop-test .loop-test .taken) (at-get .get .ensures .0) (at-get2 .get2 .ensures .0) (at-slope-at .slope-at .ensures)
+    laying-y (at-loop .loop .inv) (at-loop-test .loop-test .taken) (at-get .get .ensures .0) (at-get2 .get2 .ensures .0)
+    (at-slope-at .slope-at .ensures)
 
 sub-j-2 : tie.Need-sub-j-2 Inv-loop μ-loop
 sub-j-2 c = omega arith
@@ -97,7 +100,8 @@ loop-again c =
     let at-get = at-get2 .before in
     let at-loop-test = at-get .before in
     let at-loop = at-loop-test .before in
-    laying-step (at-loop .loop .inv) (at-loop-test .loop-test .taken) (at-get .get .ensures .0) (at-get2 .get2 .ensures .0) (at-slope-at .slope-at .ensures)
+    laying-step (at-loop .loop .inv) (at-loop-test .loop-test .taken) (at-get .get .ensures .0)
+    (at-get2 .get2 .ensures .0) (at-slope-at .slope-at .ensures)
     (at-put4 .put4 .ensures) (at-hang .hang .ensures) (at-hang2 .hang2 .ensures)
 
 same-length : tie.Need-same-length Inv-loop μ-loop

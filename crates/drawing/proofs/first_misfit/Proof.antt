@@ -21,13 +21,15 @@ returns : tie.Need-returns Inv-loop μ-loop
 returns c =
     let at-root-fits = c .before in
     let at-entry = at-root-fits .before .before .before .before .before .before .before in
-    fitting-root _ _ _ _ _ (at-entry .pre .numbered .tree .some) (at-root-fits .root-fits .ensures) (not-true _ (c .if1 .taken))
+    fitting-root _ _ _ _ _ (at-entry .pre .numbered .tree .some) (at-root-fits .root-fits .ensures)
+    (not-true _ (c .if1 .taken))
 
 loop-holds : tie.Need-loop-holds Inv-loop μ-loop
 loop-holds c =
     let at-root-fits = c .before in
     let at-entry = at-root-fits .before .before .before .before .before .before .before in
-    fitting-start _ _ _ _ _ (at-entry .pre .numbered .tree .some) (at-root-fits .root-fits .ensures) (not-false _ (c .if1 .left))
+    fitting-start _ _ _ _ _ (at-entry .pre .numbered .tree .some) (at-root-fits .root-fits .ensures)
+    (not-false _ (c .if1 .left))
 
 node-fits-requires : tie.Need-node-fits-requires Inv-loop μ-loop
 node-fits-requires c κs =
@@ -40,7 +42,8 @@ returns-2 c =
     let at-node-fits = c .before in
     let at-loop-test = at-node-fits .before in
     let at-loop = at-loop-test .before in
-    fitting-not (at-loop .loop .inv) (at-loop-test .loop-test .taken) (at-node-fits .node-fits .ensures) (not-true _ (c .if2 .taken))
+    fitting-not (at-loop .loop .inv) (at-loop-test .loop-test .taken) (at-node-fits .node-fits .ensures)
+    (not-true _ (c .if2 .taken))
 
 add-v : tie.Need-add-v Inv-loop μ-loop
 add-v c = omega arith
@@ -53,7 +56,8 @@ loop-again c =
     let at-node-fits = c .before in
     let at-loop-test = at-node-fits .before in
     let at-loop = at-loop-test .before in
-    fitting-step (at-loop .loop .inv) (at-loop-test .loop-test .taken) (at-node-fits .node-fits .ensures) (not-false _ (c .if2 .left))
+    fitting-step (at-loop .loop .inv) (at-loop-test .loop-test .taken) (at-node-fits .node-fits .ensures)
+    (not-false _ (c .if2 .left))
 
 returns-3 : tie.Need-returns-3 Inv-loop μ-loop
 returns-3 c =

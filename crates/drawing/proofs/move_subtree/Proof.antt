@@ -8,7 +8,8 @@ use Rattle.drawing.proofs.move_subtree.Statement.{statement}
 use Rattle.drawing.proofs.move_subtree.Tie as tie
 
 abbrev Inv-loop : tie.InvT-loop
-Inv-loop parent rank work places₀ v d longer n last j₀ places j = Moving parent rank work places₀ v d longer places last j
+Inv-loop parent rank work places₀ v d longer n last j₀ places j =
+    Moving parent rank work places₀ v d longer places last j
 
 abbrev μ-loop : tie.MeasureT-loop
 μ-loop parent rank work places₀ v d longer n last j₀ places j = last - j
@@ -34,7 +35,8 @@ loop-holds : tie.Need-loop-holds Inv-loop μ-loop
 loop-holds c =
     let at-get = c .before in
     let at-entry = at-get .before .before .before .before .before in
-    moving-start (at-entry .pre .0) (at-entry .pre .1) (at-entry .pre .2) (at-get .get .ensures .0) (c .get2 .ensures .0)
+    moving-start (at-entry .pre .0) (at-entry .pre .1) (at-entry .pre .2) (at-get .get .ensures .0)
+    (c .get2 .ensures .0)
 
 mul-get-2 : tie.Need-mul-get-2 Inv-loop μ-loop
 mul-get-2 c = omega arith
@@ -59,7 +61,8 @@ changed-requires c κs =
     let at-get3 = at-get4 .before .before in
     let at-loop-test = at-get3 .before in
     let at-loop = at-loop-test .before in
-    moving-can (at-loop .loop .inv) (walk-node (at-loop .loop .inv .walk) (at-loop-test .loop-test .taken) (at-get3 .get3 .ensures .0)) (at-get4 .get4 .ensures .0)
+    let node = walk-node (at-loop .loop .inv .walk) (at-loop-test .loop-test .taken) (at-get3 .get3 .ensures .0) in
+    moving-can (at-loop .loop .inv) node (at-get4 .get4 .ensures .0)
 
 put-requires : tie.Need-put-requires Inv-loop μ-loop
 put-requires c κs =
@@ -68,7 +71,8 @@ put-requires c κs =
     let at-loop-test = at-get3 .before in
     let at-loop = at-loop-test .before in
     let node = walk-node (at-loop .loop .inv .walk) (at-loop-test .loop-test .taken) (at-get3 .get3 .ensures .0) in
-    (omega (arith, at-loop .loop .inv .long, node .inside), omega (arith, c .changed .ensures, moving-fits (at-loop .loop .inv) node (at-get4 .get4 .ensures .0) (at-get4 .get4 .ensures .1)))
+    let fits = moving-fits (at-loop .loop .inv) node (at-get4 .get4 .ensures .0) (at-get4 .get4 .ensures .1) in
+    (omega (arith, at-loop .loop .inv .long, node .inside), omega (arith, c .changed .ensures))
 
 add-j : tie.Need-add-j Inv-loop μ-loop
 add-j c = omega arith
@@ -85,7 +89,8 @@ loop-again c =
     let at-loop-test = at-get3 .before in
     let at-loop = at-loop-test .before in
     let node = walk-node (at-loop .loop .inv .walk) (at-loop-test .loop-test .taken) (at-get3 .get3 .ensures .0) in
-    moving-step (at-loop .loop .inv) (at-loop-test .loop-test .taken) node (at-get4 .get4 .ensures .0) (at-changed .changed .ensures) (at-put .put .ensures)
+    moving-step (at-loop .loop .inv) (at-loop-test .loop-test .taken) node (at-get4 .get4 .ensures .0)
+    (at-changed .changed .ensures) (at-put .put .ensures)
 
 same-length : tie.Need-same-length Inv-loop μ-loop
 same-length c =

@@ -32,7 +32,8 @@ loop-holds : tie.Need-loop-holds Inv-loop μ-loop
 loop-holds c =
     let at-get = c .before in
     let at-entry = at-get .before .before .before .before .before in
-    clear-start _ _ _ (at-entry .pre .0) (at-entry .pre .1) (at-entry .pre .2) (at-get .get .ensures .0) (c .get2 .ensures .0)
+    clear-start _ _ _ (at-entry .pre .0) (at-entry .pre .1) (at-entry .pre .2) (at-get .get .ensures .0)
+    (c .get2 .ensures .0)
 
 mul-get-2 : tie.Need-mul-get-2 Inv-loop μ-loop
 mul-get-2 c = omega arith
@@ -59,7 +60,8 @@ returns c =
     let at-get3 = at-get4 .before in
     let at-loop-test = at-get3 .before in
     let at-loop = at-loop-test .before in
-    passes-yes (walk-node (at-loop .loop .inv .walk) (at-loop-test .loop-test .taken) (at-get3 .get3 .ensures .0)) (at-get4 .get4 .ensures .0) (c .if1 .taken)
+    let node = walk-node (at-loop .loop .inv .walk) (at-loop-test .loop-test .taken) (at-get3 .get3 .ensures .0) in
+    passes-yes node (at-get4 .get4 .ensures .0) (c .if1 .taken)
 
 add-j : tie.Need-add-j Inv-loop μ-loop
 add-j c = omega arith
