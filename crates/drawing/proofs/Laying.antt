@@ -60,16 +60,13 @@ pub record Numbers (P R : List ℕ) (j v : ℕ) : Type 0 where
   pub inside : v < length P
   pub number : postNumber P R v ≡ j
 
-pub next-node : {P R W : List ℕ} {j v : ℕ} → NumberedTree P R W → 0 < j → j < length P
-    → v ≡ getD W (3 * length P + j - 1) 0 → Numbers P R j v
-next-node {P} {R} {W} {j} {v} t some low e =
-    let at = number-at (t .tree) (j - 1) (omega arith) in
-    let is : v ≡ getD (order P R) (j - 1) 0 =
-    e ∙ ap (λ k. getD W k 0) (omega arith) ∙ t .numbers .node (j - 1) (omega arith) in
-    let number : postNumber P R v ≡ j = ap (postNumber P R) is ∙ omega (arith, at .1) in
-    let inside : v < length P = omega (arith, at .0) in
-    let not-root : v ≡ 0 → ⊥ = λ z. omega (arith, ap (postNumber P R) z, root-last (t .tree)) in
-    record { above = omega arith; inside = inside; number = number }
+pub record Laying (P R : List ℕ) (rule : Rule) (s : Drawing) (W : List ℕ) (j : ℕ) : Type 0 where
+  pub numbered : NumberedTree P R W
+  pub goal : Drawn (2 ^ 32 - 1) P R rule (fresh P R rule)
+  pub low : j < length P
+  pub times : Filled P R (fresh P R rule .times) (s .times) j
+  pub x : Filled P R (fresh P R rule .x) (s .x) j
+  pub y : Filled P R (fresh P R rule .y) (s .y) j
 
 -- its place is its parent's, which is filled, and the part of its slope
 hung : {P R : List ℕ} {rule : Rule} → Tree P R → {j v p limit : ℕ} {slope : Slope} (part : Slope → ℕ) {F X : List ℕ}
@@ -88,63 +85,77 @@ hung {P} {R} {rule} tree {v = v} {slope = slope} part {F} {X} n f c ep es =
 ------------------------------------------------------------------------
 -- The three lists
 
-pub record Laying (P R : List ℕ) (rule : Rule) (s : Drawing) (j : ℕ) : Type 0 where
-  pub low : j < length P
-  pub times : Filled P R (fresh P R rule .times) (s .times) j
-  pub x : Filled P R (fresh P R rule .x) (s .x) j
-  pub y : Filled P R (fresh P R rule .y) (s .y) j
+pub laying-start : {P R : List ℕ} {rule : Rule} {s : Drawing} {W T X Y : List ℕ} → Blank P R rule s W
+    → T ≡ set (s .times) 0 1 → X ≡ set (s .x) 0 0 → Y ≡ set (s .y) 0 0 → Laying P R rule (lent T X Y) W (length P - 1)
+laying-start {P} {R} {rule} {s} b p q r =
+    let n = tree .some in
+    record {
+      numbered = b .sized .numbered;
+      goal = goal;
+      low = omega arith;
+      times = root (s .times) (goal .long) (b .sized .times) 1 (sym (goal .root-once)) p;
+      x = root (s .x) (goal .x .long) (b .sized .x) 0 (sym (goal .x .adds .root)) q;
+      y = root (s .y) (goal .y .long) (b .sized .y) 0 (sym (goal .y .adds .root)) r;
+    }
+  where
+    tree : Tree P R
+    tree = b .sized .numbered .tree
 
-module _ {P R : List ℕ} {rule : Rule} {s : Drawing} {W : List ℕ} (b : Blank P R rule s W) where
+    goal : Drawn (2 ^ 32 - 1) P R rule (fresh P R rule)
+    goal = fresh-drawn tree rule (omega (arith, b .wide)) (omega (arith, b .tall))
+
+    root : {F Y : List ℕ} (X : List ℕ) → length F ≡ length P → length X ≡ length P → (a : ℕ) → a ≡ getD F 0 0
+        → Y ≡ set X 0 a → Filled P R F Y (length P - 1)
+    root X want long a is q =
+        filled-set tree {X = X} (filled-none tree want long) 0 a (tree .some) (root-last tree) is q
+
+module _ {P R : List ℕ} {rule : Rule} {W T X Y : List ℕ} {j v : ℕ} (l : Laying P R rule (lent T X Y) W j) (some : 0 < j)
+    (at : v ≡ getD W (3 * length P + j - 1) 0) where
   tree : Tree P R
-  tree = b .sized .numbered .tree
+  tree = l .numbered .tree
 
-  drawn : Drawn (2 ^ 32 - 1) P R rule (fresh P R rule)
-  drawn = fresh-drawn tree rule (omega (arith, b .wide)) (omega (arith, b .tall))
+  pub laying-node : Numbers P R j v
+  laying-node =
+      let low = l .low in
+      let there = number-at tree (j - 1) (omega arith) in
+      let is : v ≡ getD (order P R) (j - 1) 0 =
+      at ∙ ap (λ k. getD W k 0) (omega arith) ∙ l .numbered .numbers .node (j - 1) (omega arith) in
+      let number : postNumber P R v ≡ j = ap (postNumber P R) is ∙ omega (arith, there .1) in
+      let inside : v < length P = omega (arith, there .0) in
+      let not-root : v ≡ 0 → ⊥ = λ z. omega (arith, ap (postNumber P R) z, root-last tree) in
+      record { above = omega arith; inside = inside; number = number }
 
-  pub laying-start : {T X Y : List ℕ} → T ≡ set (s .times) 0 1 → X ≡ set (s .x) 0 0 → Y ≡ set (s .y) 0 0
-      → Laying P R rule (lent T X Y) (length P - 1)
-  laying-start p q r =
-      let n = tree .some in
-      record {
-        low = omega arith;
-        times = root (s .times) (drawn .long) (b .sized .times) 1 (sym (drawn .root-once)) p;
-        x = root (s .x) (drawn .x .long) (b .sized .x) 0 (sym (drawn .x .adds .root)) q;
-        y = root (s .y) (drawn .y .long) (b .sized .y) 0 (sym (drawn .y .adds .root)) r;
-      }
-    where
-      root : {F Y : List ℕ} (X : List ℕ) → length F ≡ length P → length X ≡ length P → (a : ℕ) → a ≡ getD F 0 0 → Y ≡ set X 0 a
-          → Filled P R F Y (length P - 1)
-      root X want long a is q = filled-set tree {X = X} (filled-none tree want long) 0 a (tree .some) (root-last tree) is q
-
-  module _ {T X Y : List ℕ} {j v p : ℕ} {slope : Slope} (l : Laying P R rule (lent T X Y) j) (n : Numbers P R j v)
-      (up : p ≡ parent P v) (is : slope ≡ slopeAt rule (length P) j) where
+  module _ {p : ℕ} {slope : Slope} (up : p ≡ parent P v) (is : slope ≡ slopeAt rule (length P) j) where
     pub laying-x : (p < length X) × (v < length X) × (getD X p 0 + slope .across < 2 ^ 32)
-    laying-x = (
+    laying-x = let n = laying-node in (
       omega (arith, l .x .long, tree .inside v (n .inside)),
       omega (arith, l .x .long, n .inside),
-      omega (arith, hung tree acrossOf n (l .x) (drawn .x) up is, drawn .x .within v (n .inside)),
+      omega (arith, hung tree acrossOf n (l .x) (l .goal .x) up is, l .goal .x .within v (n .inside)),
     )
 
     pub laying-y : (p < length Y) × (v < length Y) × (getD Y p 0 + slope .up < 2 ^ 32)
-    laying-y = (
+    laying-y = let n = laying-node in (
       omega (arith, l .y .long, tree .inside v (n .inside)),
       omega (arith, l .y .long, n .inside),
-      omega (arith, hung tree upOf n (l .y) (drawn .y) up is, drawn .y .within v (n .inside)),
+      omega (arith, hung tree upOf n (l .y) (l .goal .y) up is, l .goal .y .within v (n .inside)),
     )
 
-    pub laying-step : {T′ X′ Y′ : List ℕ} → 0 < j → T′ ≡ set T v 1 → X′ ≡ set X v (getD X p 0 + slope .across)
-        → Y′ ≡ set Y v (getD Y p 0 + slope .up) → Laying P R rule (lent T′ X′ Y′) (j - 1)
-    laying-step some p q r = record {
+    pub laying-step : {T′ X′ Y′ : List ℕ} → T′ ≡ set T v 1 → X′ ≡ set X v (getD X p 0 + slope .across)
+        → Y′ ≡ set Y v (getD Y p 0 + slope .up) → Laying P R rule (lent T′ X′ Y′) W (j - 1)
+    laying-step p q r = let n = laying-node in record {
+      numbered = l .numbered;
+      goal = l .goal;
       low = omega (arith, l .low);
       times = filled-set tree (l .times) v 1 (n .inside) (n .number) (sym (fresh-once tree rule v (n .inside))) p;
-      x = filled-set tree (l .x) v _ (n .inside) (n .number) (hung tree acrossOf n (l .x) (drawn .x) up is) q;
-      y = filled-set tree (l .y) v _ (n .inside) (n .number) (hung tree upOf n (l .y) (drawn .y) up is) r;
+      x = filled-set tree (l .x) v _ (n .inside) (n .number) (hung tree acrossOf n (l .x) (l .goal .x) up is) q;
+      y = filled-set tree (l .y) v _ (n .inside) (n .number) (hung tree upOf n (l .y) (l .goal .y) up is) r;
     }
 
-  pub laying-end : {t : Drawing} {j : ℕ} → Laying P R rule t j → j ≤ 0 → t ≡ fresh P R rule
-  laying-end {t} {j} l e =
-      let z : j ≡ 0 = omega arith in
-      same-drawing (all z (l .times)) (all z (l .x)) (all z (l .y))
-    where
-      all : j ≡ 0 → {F X : List ℕ} → Filled P R F X j → X ≡ F
-      all z {F} {X} f = filled-all tree (subst (λ k. Filled P R F X k) z f)
+pub laying-end : {P R : List ℕ} {rule : Rule} {t : Drawing} {W : List ℕ} {j : ℕ} → Laying P R rule t W j → j ≤ 0
+    → t ≡ fresh P R rule
+laying-end {P} {R} {j = j} l e =
+    let z : j ≡ 0 = omega arith in
+    same-drawing (all z (l .times)) (all z (l .x)) (all z (l .y))
+  where
+    all : j ≡ 0 → {F X : List ℕ} → Filled P R F X j → X ≡ F
+    all z {F} {X} f = filled-all (l .numbered .tree) (subst (λ k. Filled P R F X k) z f)

@@ -1,7 +1,9 @@
--- Drawings, and the calls that lay them out and stretch them (document 01, "Layout, lengthen, shorten"; refusals 8 to 12).
+-- Drawings, and the calls that lay them out and stretch them (document 01, "Layout, lengthen, shorten"; refusals 8 to
+-- 12).
 --
 -- Document 01's sheet is a drawing of a table under a rule: three lists, times (how many times its slope each edge is
--- long), x and y. x and y are one thing twice: a coordinate is a list of places, with the part of a slope that it adds up.
+-- long), x and y. x and y are one thing twice: a coordinate is a list of places, with the part of a slope that it adds
+-- up.
 --
 --   edge P R rule v           == the slope of v's edge, from its parent to v
 --   pathSum P g v             == the sum of g over the path of v: v, its parent, .., a child of the root
@@ -10,6 +12,7 @@
 --   frame s                   == the largest x and the largest y
 --   placed limit .. v         == a coordinate of v is right against its parent's, and within the limit
 --   nodeFits limit .. v       == times and place of v are right against its parent's place, and within the limit
+--   misfit limit .. v         == they are not
 --   moved P move v places     == a coordinate with v's subtree moved
 --   longer, shorter .. s v c  == the drawing with v's edge c times its slope longer or shorter, v's subtree moved along
 --   beyond limit n s          == some place is beyond the limit
@@ -85,6 +88,9 @@ nodeFits limit P R rule s v =
     cond (eqb v 0) (eqb (getD (s .times) v 0) 1) (leb 1 (getD (s .times) v 0))
     && (placed limit P R rule (s .times) acrossOf (s .x) v && placed limit P R rule (s .times) upOf (s .y) v)
 
+abbrev pub misfit : ℕ → List ℕ → List ℕ → Rule → Drawing → ℕ → Bool
+misfit limit P R rule s v = not (nodeFits limit P R rule s v)
+
 ------------------------------------------------------------------------
 -- Stretching
 
@@ -126,7 +132,7 @@ layout L P R rule s work = settle (tableFault L P R (allLong (length P) (lists s
 unfoldable pub drawingFault : Limits → List ℕ → List ℕ → Rule → Drawing → ℕ → ℕ → Option Refusal
 drawingFault L P R rule s work v =
     tableFault L P R (allLong (length P) (lists s)) work
-    orElse refuseLeast 8 (length P) (λ z. not (nodeFits (L .place) P R rule s z))
+    orElse refuseLeast 8 (length P) (misfit (L .place) P R rule s)
     orElse refuse (leb (length P) v) 9 0
     orElse refuse (eqb v 0) 10 0
 
@@ -151,15 +157,15 @@ lent times x y = record { times = times; x = x; y = y }
 abbrev pub Spared : Limits → List ℕ → List ℕ → Drawing → List ℕ → List ℕ → Type 0
 Spared L P R s W X = (f : Refusal) → shapeFault L P R (allLong (length P) (lists s)) (length W) ≡ some f → X ≡ W
 
-pub record Laid (L : Limits) (P R : List ℕ) (rule : Rule) (s : Drawing) (W : List ℕ) (t : Drawing) (X : List ℕ) (r : Framed) : Type 0 where
-  pub outcome : record { answer = r; drawing = t } ≡ layout L P R rule s (length W)
-  pub spared : Spared L P R s W X
+module _ (L : Limits) (P R : List ℕ) (rule : Rule) (s : Drawing) (W : List ℕ) where
+  pub record Laid (t : Drawing) (X : List ℕ) (r : Framed) : Type 0 where
+    pub outcome : record { answer = r; drawing = t } ≡ layout L P R rule s (length W)
+    pub spared : Spared L P R s W X
 
-module _ (L : Limits) (P R : List ℕ) (rule : Rule) (s : Drawing) (W : List ℕ) (v c : ℕ) (t : Drawing) (X : List ℕ) (r : Framed) where
-  pub record Lengthened : Type 0 where
+  pub record Lengthened (v c : ℕ) (t : Drawing) (X : List ℕ) (r : Framed) : Type 0 where
     pub outcome : record { answer = r; drawing = t } ≡ lengthen L P R rule s (length W) v c
     pub spared : Spared L P R s W X
 
-  pub record Shortened : Type 0 where
+  pub record Shortened (v c : ℕ) (t : Drawing) (X : List ℕ) (r : Framed) : Type 0 where
     pub outcome : record { answer = r; drawing = t } ≡ shorten L P R rule s (length W) v c
     pub spared : Spared L P R s W X

@@ -1,6 +1,8 @@
 -- What the parts of the calls need and leave.
 --
 --   by longer a d          == a and d more, or d less
+--   placedFrom limit X p v step == v's place is that of p and `step` more, and within the limit
+--   rootFits s             == the root has times 1 and place (0, 0)
 --   NumberedTree P R W     == P and R are an accepted table, and the work list W holds its post-order numbers
 --   Prepared L .. r        == the answer r is refusals 1 to 7 of a call on the drawing s; if none, the table is numbered
 --   Sized P R s W          == the lists of s are as long as the table, which is numbered
@@ -10,10 +12,11 @@
 --   Movable P X v d longer == v's subtree can be moved on, or back, by d
 --   Stretchable ..         == v's edge can be made longer, or shorter
 --   Stretched .. t r       == the drawing t with that edge, and its frame r
-use mathlib.Core.Bool.{Bool, true, false}
+use mathlib.Core.Bool.{Bool, true, false, _&&_}
 use mathlib.Core.List.{List}
 use mathlib.Core.Path.{_≡_}
 use Prim.Native.Nat.{ℕ, _+_, _-_, _*_, _^_, _≤_, _<_}
+use lib.Dec.{leb, eqb}
 use lib.ListN.{length, getD}
 use Rattle.table.specs.declared.Limits.{Limits}
 use Rattle.table.specs.declared.Validity.{Validity}
@@ -30,6 +33,12 @@ use Rattle.drawing.specs.Drawing.{Drawing, lists, edge, frame, stretched
 abbrev pub by : Bool → ℕ → ℕ → ℕ
 by true a d = a + d
 by false a d = a - d
+
+abbrev pub placedFrom : ℕ → List ℕ → ℕ → ℕ → ℕ → Bool
+placedFrom limit X p v step = eqb (getD X v 0) (getD X p 0 + step) && leb (getD X v 0) limit
+
+abbrev pub rootFits : Drawing → Bool
+rootFits s = eqb (getD (s .times) 0 0) 1 && (eqb (getD (s .x) 0 0) 0 && eqb (getD (s .y) 0 0) 0)
 
 pub record NumberedTree (P R W : List ℕ) : Type 0 where
   pub tree : Tree P R

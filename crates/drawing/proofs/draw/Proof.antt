@@ -1,36 +1,28 @@
 -- The nodes with numbers above j are drawn.
-use native.Mathlib.Omega.{arith}
 use mathlib.Core.Path.{sym, _∙_}
+use native.Mathlib.Omega.{arith}
 use Rattle.drawing.specs.Drawing.{lent}
-use Rattle.drawing.proofs.Laying.{Laying, laying-start, next-node, laying-x, laying-y, laying-step, laying-end}
+use Rattle.drawing.proofs.Laying.{Laying, laying-start, laying-node, laying-x, laying-y, laying-step, laying-end}
 use Rattle.drawing.proofs.draw.Statement.{statement}
 use Rattle.drawing.proofs.draw.Tie as tie
 
 abbrev Inv-loop : tie.InvT-loop
-Inv-loop rule parent rank times₀ x₀ y₀ work n j₀ times x y j = Laying parent rank rule (lent times x y) j
+Inv-loop rule parent rank times₀ x₀ y₀ work n j₀ times x y j = Laying parent rank rule (lent times x y) work j
 
 abbrev μ-loop : tie.MeasureT-loop
 μ-loop rule parent rank times₀ x₀ y₀ work n j₀ times x y j = j
 
 put-requires : tie.Need-put-requires Inv-loop μ-loop
-put-requires c κs =
-    let at-entry = c .before .before .before .before .before .before .before in
-    (omega (arith, at-entry .pre .sized .numbered .tree .some, at-entry .pre .sized .times), omega arith)
+put-requires c κs = omega arith
 
 put-requires-2 : tie.Need-put-requires-2 Inv-loop μ-loop
-put-requires-2 c κs =
-    let at-entry = c .before .before .before .before .before .before .before .before .before .before .before in
-    (omega (arith, at-entry .pre .sized .numbered .tree .some, at-entry .pre .sized .x), omega arith)
+put-requires-2 c κs = omega arith
 
 put-requires-3 : tie.Need-put-requires-3 Inv-loop μ-loop
-put-requires-3 c κs =
-    let at-entry = c .before .before .before .before .before .before .before .before .before .before .before .before .before .before .before in
-    (omega (arith, at-entry .pre .sized .numbered .tree .some, at-entry .pre .sized .y), omega arith)
+put-requires-3 c κs = omega arith
 
 sub-j : tie.Need-sub-j Inv-loop μ-loop
-sub-j c =
-    let at-entry = c .before .before .before .before .before .before .before .before .before .before .before .before .before .before .before .before .before .before in
-    omega (arith, at-entry .pre .sized .numbered .tree .some)
+sub-j c = omega arith
 
 loop-holds : tie.Need-loop-holds Inv-loop μ-loop
 loop-holds c =
@@ -41,47 +33,36 @@ loop-holds c =
     laying-start (at-entry .pre) (at-put .put .ensures) (at-put2 .put2 .ensures) (at-put3 .put3 .ensures)
 
 mul-get : tie.Need-mul-get Inv-loop μ-loop
-mul-get c =
-    let at-entry = c .before .before .before .before .before .before .before .before .before .before .before .before .before .before .before .before .before .before .before .before in
-    omega (arith, at-entry .pre .sized .numbered .few)
+mul-get c = omega arith
 
 add-get : tie.Need-add-get Inv-loop μ-loop
-add-get c =
-    let at-loop = c .before in
-    let at-entry = at-loop .before .before .before .before .before .before .before .before .before .before .before .before .before .before .before .before .before .before .before in
-    omega (arith, at-entry .pre .sized .numbered .few, at-loop .loop .inv .low)
+add-get c = omega arith
 
 sub-get : tie.Need-sub-get Inv-loop μ-loop
 sub-get c = omega arith
 
 get-requires : tie.Need-get-requires Inv-loop μ-loop
-get-requires c κs =
-    let at-loop = c .before in
-    let at-entry = at-loop .before .before .before .before .before .before .before .before .before .before .before .before .before .before .before .before .before .before .before in
-    omega (arith, at-entry .pre .sized .numbered .numbers .long, at-loop .loop .inv .low)
+get-requires c κs = omega arith
 
 get-requires-2 : tie.Need-get-requires-2 Inv-loop μ-loop
 get-requires-2 c κs =
     let at-loop-test = c .before in
     let at-loop = at-loop-test .before in
-    let at-entry = at-loop .before .before .before .before .before .before .before .before .before .before .before .before .before .before .before .before .before .before .before in
-    next-node (at-entry .pre .sized .numbered) (at-loop-test .loop-test .taken) (at-loop .loop .inv .low) (c .get .ensures .0) .inside
+    laying-node (at-loop .loop .inv) (at-loop-test .loop-test .taken) (c .get .ensures .0) .inside
 
 slope-at-requires : tie.Need-slope-at-requires Inv-loop μ-loop
 slope-at-requires c κs =
     let at-loop-test = c .before .before in
     let at-loop = at-loop-test .before in
-    let at-entry = at-loop .before .before .before .before .before .before .before .before .before .before .before .before .before .before .before .before .before .before .before in
-    (at-loop-test .loop-test .taken, at-loop .loop .inv .low, omega (arith, at-entry .pre .sized .numbered .few))
+    (at-loop-test .loop-test .taken, at-loop .loop .inv .low, omega (arith, at-loop .loop .inv .numbered .few))
 
 put-requires-4 : tie.Need-put-requires-4 Inv-loop μ-loop
 put-requires-4 c κs =
     let at-get = c .before .before .before in
     let at-loop-test = at-get .before in
     let at-loop = at-loop-test .before in
-    let at-entry = at-loop .before .before .before .before .before .before .before .before .before .before .before .before .before .before .before .before .before .before .before in
-    let node = next-node (at-entry .pre .sized .numbered) (at-loop-test .loop-test .taken) (at-loop .loop .inv .low) (at-get .get .ensures .0) in
-    (omega (arith, at-loop .loop .inv .times .long, node .inside), omega arith)
+    let inside = laying-node (at-loop .loop .inv) (at-loop-test .loop-test .taken) (at-get .get .ensures .0) .inside in
+    (omega (arith, at-loop .loop .inv .times .long), omega arith)
 
 hang-requires : tie.Need-hang-requires Inv-loop μ-loop
 hang-requires c κs =
@@ -90,9 +71,8 @@ hang-requires c κs =
     let at-get = at-get2 .before in
     let at-loop-test = at-get .before in
     let at-loop = at-loop-test .before in
-    let at-entry = at-loop .before .before .before .before .before .before .before .before .before .before .before .before .before .before .before .before .before .before .before in
-    let node = next-node (at-entry .pre .sized .numbered) (at-loop-test .loop-test .taken) (at-loop .loop .inv .low) (at-get .get .ensures .0) in
-    laying-x (at-entry .pre) (at-loop .loop .inv) node (at-get2 .get2 .ensures .0) (at-slope-at .slope-at .ensures)
+    laying-x (at-loop .loop .inv) (at-loop-test .loop-test .taken) (at-get .get .ensures .0) (at-get2 .get2 .ensures .0)
+    (at-slope-at .slope-at .ensures)
 
 hang-requires-2 : tie.Need-hang-requires-2 Inv-loop μ-loop
 hang-requires-2 c κs =
@@ -101,9 +81,8 @@ hang-requires-2 c κs =
     let at-get = at-get2 .before in
     let at-loop-test = at-get .before in
     let at-loop = at-loop-test .before in
-    let at-entry = at-loop .before .before .before .before .before .before .before .before .before .before .before .before .before .before .before .before .before .before .before in
-    let node = next-node (at-entry .pre .sized .numbered) (at-loop-test .loop-test .taken) (at-loop .loop .inv .low) (at-get .get .ensures .0) in
-    laying-y (at-entry .pre) (at-loop .loop .inv) node (at-get2 .get2 .ensures .0) (at-slope-at .slope-at .ensures)
+    laying-y (at-loop .loop .inv) (at-loop-test .loop-test .taken) (at-get .get .ensures .0) (at-get2 .get2 .ensures .0)
+    (at-slope-at .slope-at .ensures)
 
 sub-j-2 : tie.Need-sub-j-2 Inv-loop μ-loop
 sub-j-2 c = omega arith
@@ -121,34 +100,38 @@ loop-again c =
     let at-get = at-get2 .before in
     let at-loop-test = at-get .before in
     let at-loop = at-loop-test .before in
-    let at-entry = at-loop .before .before .before .before .before .before .before .before .before .before .before .before .before .before .before .before .before .before .before in
-    let node = next-node (at-entry .pre .sized .numbered) (at-loop-test .loop-test .taken) (at-loop .loop .inv .low) (at-get .get .ensures .0) in
-    laying-step (at-entry .pre) (at-loop .loop .inv) node (at-get2 .get2 .ensures .0) (at-slope-at .slope-at .ensures)
-    (at-loop-test .loop-test .taken) (at-put4 .put4 .ensures) (at-hang .hang .ensures) (at-hang2 .hang2 .ensures)
+    laying-step (at-loop .loop .inv) (at-loop-test .loop-test .taken) (at-get .get .ensures .0)
+    (at-get2 .get2 .ensures .0) (at-slope-at .slope-at .ensures)
+    (at-put4 .put4 .ensures) (at-hang .hang .ensures) (at-hang2 .hang2 .ensures)
 
 same-length : tie.Need-same-length Inv-loop μ-loop
 same-length c =
     let at-loop = c .before in
-    let at-entry = at-loop .before .before .before .before .before .before .before .before .before .before .before .before .before .before .before .before .before .before .before in
+    let at-entry =
+    at-loop .before .before .before .before .before .before .before .before .before .before .before .before .before
+    .before .before .before .before .before .before in
     at-loop .loop .inv .times .long ∙ sym (at-entry .pre .sized .times)
 
 same-length-2 : tie.Need-same-length-2 Inv-loop μ-loop
 same-length-2 c =
     let at-loop = c .before in
-    let at-entry = at-loop .before .before .before .before .before .before .before .before .before .before .before .before .before .before .before .before .before .before .before in
+    let at-entry =
+    at-loop .before .before .before .before .before .before .before .before .before .before .before .before .before
+    .before .before .before .before .before .before in
     at-loop .loop .inv .x .long ∙ sym (at-entry .pre .sized .x)
 
 same-length-3 : tie.Need-same-length-3 Inv-loop μ-loop
 same-length-3 c =
     let at-loop = c .before in
-    let at-entry = at-loop .before .before .before .before .before .before .before .before .before .before .before .before .before .before .before .before .before .before .before in
+    let at-entry =
+    at-loop .before .before .before .before .before .before .before .before .before .before .before .before .before
+    .before .before .before .before .before .before in
     at-loop .loop .inv .y .long ∙ sym (at-entry .pre .sized .y)
 
 returns : tie.Need-returns Inv-loop μ-loop
 returns c =
     let at-loop = c .before in
-    let at-entry = at-loop .before .before .before .before .before .before .before .before .before .before .before .before .before .before .before .before .before .before .before in
-    laying-end (at-entry .pre) (at-loop .loop .inv) (c .loop-test .left)
+    laying-end (at-loop .loop .inv) (c .loop-test .left)
 
 pub draw-spec : {M : Type 1} → statement M
 draw-spec =

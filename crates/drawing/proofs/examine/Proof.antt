@@ -18,8 +18,8 @@ enum-known-valid c = search needs
 enum-told : tie.Need-enum-told
 enum-told c = search needs
 
-misfit-requires : tie.Need-misfit-requires
-misfit-requires c κs =
+first-misfit-requires : tie.Need-first-misfit-requires
+first-misfit-requires c κs =
     let at-enum-told = c .before in
     let at-prepare = at-enum-told .before .before .before .before in
     sized (at-prepare .prepare .ensures) (at-enum-told .enum-told .given .1)
@@ -28,17 +28,19 @@ cast-t22 : tie.Need-cast-t22
 cast-t22 c =
     let at-enum-told = c .before .before .before in
     let at-prepare = at-enum-told .before .before .before .before in
-    omega (arith, sized (at-prepare .prepare .ensures) (at-enum-told .enum-told .given .1) .numbered .few, c .if1 .taken)
+    let few = sized (at-prepare .prepare .ensures) (at-enum-told .enum-told .given .1) .numbered .few in
+    omega (arith, c .if1 .taken)
 
 same-length : tie.Need-same-length
 same-length c = search needs
 
 returns : tie.Need-returns
 returns c =
-    let at-misfit = c .before in
-    let at-enum-told = at-misfit .before .before in
+    let at-first-misfit = c .before in
+    let at-enum-told = at-first-misfit .before .before in
     let at-prepare = at-enum-told .before .before .before .before in
-    checked-8 (at-prepare .prepare .ensures) _ _ (at-enum-told .enum-told .given .1) (at-misfit .misfit .ensures) (c .if1 .taken)
+    checked-8 (at-prepare .prepare .ensures) _ _ (at-enum-told .enum-told .given .1)
+    (at-first-misfit .first-misfit .ensures) (c .if1 .taken)
 
 same-length-2 : tie.Need-same-length-2
 same-length-2 c = search needs
@@ -46,10 +48,11 @@ same-length-2 c = search needs
 returns-2 : tie.Need-returns-2
 returns-2 c =
     let at-if1 = c .before in
-    let at-misfit = at-if1 .before in
-    let at-enum-told = at-misfit .before .before in
+    let at-first-misfit = at-if1 .before in
+    let at-enum-told = at-first-misfit .before .before in
     let at-prepare = at-enum-told .before .before .before .before in
-    checked-9 (at-prepare .prepare .ensures) _ _ (at-enum-told .enum-told .given .1) (at-misfit .misfit .ensures) (at-if1 .if1 .left) (c .if2 .taken)
+    checked-9 (at-prepare .prepare .ensures) _ _ (at-enum-told .enum-told .given .1)
+    (at-first-misfit .first-misfit .ensures) (at-if1 .if1 .left) (c .if2 .taken)
 
 same-length-3 : tie.Need-same-length-3
 same-length-3 c = search needs
@@ -58,10 +61,12 @@ returns-3 : tie.Need-returns-3
 returns-3 c =
     let at-if2 = c .before in
     let at-if1 = at-if2 .before in
-    let at-misfit = at-if1 .before in
-    let at-enum-told = at-misfit .before .before in
+    let at-first-misfit = at-if1 .before in
+    let at-enum-told = at-first-misfit .before .before in
     let at-prepare = at-enum-told .before .before .before .before in
-    checked-10 (at-prepare .prepare .ensures) _ _ (at-enum-told .enum-told .given .1) (at-misfit .misfit .ensures) (at-if1 .if1 .left) (at-if2 .if2 .left) (c .if3 .taken)
+    checked-10 (at-prepare .prepare .ensures) _ _ (at-enum-told .enum-told .given .1)
+    (at-first-misfit .first-misfit .ensures)
+    (at-if1 .if1 .left) (at-if2 .if2 .left) (c .if3 .taken)
 
 same-length-4 : tie.Need-same-length-4
 same-length-4 c = search needs
@@ -79,10 +84,12 @@ returns-5 : tie.Need-returns-5
 returns-5 c =
     let at-if2 = c .before in
     let at-if1 = at-if2 .before in
-    let at-misfit = at-if1 .before in
-    let at-enum-told = at-misfit .before .before in
+    let at-first-misfit = at-if1 .before in
+    let at-enum-told = at-first-misfit .before .before in
     let at-prepare = at-enum-told .before .before .before .before in
-    checked-all (at-prepare .prepare .ensures) _ _ (at-enum-told .enum-told .given .1) (at-misfit .misfit .ensures) (at-if1 .if1 .left) (at-if2 .if2 .left) (c .if3 .left)
+    checked-all (at-prepare .prepare .ensures) _ _ (at-enum-told .enum-told .given .1)
+    (at-first-misfit .first-misfit .ensures)
+    (at-if1 .if1 .left) (at-if2 .if2 .left) (c .if3 .left)
 
 pub examine-spec : {M : Type 1} → statement M
 examine-spec =
@@ -92,7 +99,7 @@ examine-spec =
     prepare-requires
     enum-known-valid
     enum-told
-    misfit-requires
+    first-misfit-requires
     cast-t22
     same-length
     returns

@@ -23,7 +23,8 @@ returns c =
     let at-put = c .before .before in
     let at-get = at-put .before .before in
     let at-entry = at-get .before .before .before in
-    at-put .put .ensures ∙ ap (λ (k : ℕ). set (at-entry .args .places .now) (at-entry .args .v) (k + at-entry .args .part)) (at-get .get .ensures .0)
+    let args = at-entry .args in
+    at-put .put .ensures ∙ ap (λ (k : ℕ). set (args .places .now) (args .v) (k + args .part)) (at-get .get .ensures .0)
 
 pub hang-spec : {M : Type 1} → statement M
 hang-spec = tie.close (tie.spec get-requires add-place put-requires same-length returns)

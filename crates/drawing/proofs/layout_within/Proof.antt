@@ -20,7 +20,8 @@ draw-requires c κs =
     let at-enum-told = c .before .before .before .before in
     let at-prepare = at-enum-told .before .before .before .before in
     let at-entry = at-prepare .before .before .before .before .before .before .before .before .before .before .before in
-    blank (at-prepare .prepare .ensures) (omega (arith, at-entry .good)) (at-entry .pre) (at-enum-told .enum-told .given .1)
+    blank (at-prepare .prepare .ensures) (omega (arith, at-entry .good)) (at-entry .pre)
+    (at-enum-told .enum-told .given .1)
 
 frame-of-requires : tie.Need-frame-of-requires
 frame-of-requires c κs = search needs
@@ -61,7 +62,8 @@ returns-2 c =
     let at-draw = c .before .before .before .before .before .before .before .before .before in
     let at-enum-told = at-draw .before .before .before .before .before in
     let at-prepare = at-enum-told .before .before .before .before in
-    laid-fresh (at-prepare .prepare .ensures) (at-enum-told .enum-told .given .1) (at-draw .draw .ensures) (c .frame-of .ensures)
+    laid-fresh (at-prepare .prepare .ensures) (at-enum-told .enum-told .given .1) (at-draw .draw .ensures)
+    (c .frame-of .ensures)
 
 pub layout-within-spec : {M : Type 1} → statement M
 layout-within-spec =

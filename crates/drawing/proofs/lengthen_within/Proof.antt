@@ -1,6 +1,7 @@
 -- Refusals 1 to 10, then the limit, then the longer drawing.
 use native.Mathlib.Omega.{arith}
-use Rattle.drawing.proofs.Stretching.{checked-examined, lengthened-refused, lengthened-beyond, can-lengthen, lengthened}
+use Rattle.drawing.proofs.Stretching.{checked-examined, lengthened-refused, lengthened-beyond}
+use Rattle.drawing.proofs.Stretching.{can-lengthen, lengthened}
 use borrow.Author.Needs.{needs}
 use Rattle.drawing.proofs.lengthen_within.Statement.{statement}
 use Rattle.drawing.proofs.lengthen_within.Tie as tie
@@ -41,7 +42,8 @@ returns c =
     let at-too-far = c .before in
     let at-enum-told = at-too-far .before .before .before .before .before in
     let at-examine = at-enum-told .before .before .before .before in
-    lengthened-beyond (at-examine .examine .ensures) _ (at-enum-told .enum-told .given .1) (at-too-far .too-far .ensures) (c .if1 .taken)
+    lengthened-beyond (at-examine .examine .ensures) _ (at-enum-told .enum-told .given .1)
+    (at-too-far .too-far .ensures) (c .if1 .taken)
 
 stretch-requires : tie.Need-stretch-requires
 stretch-requires c κs =
@@ -49,8 +51,10 @@ stretch-requires c κs =
     let at-too-far = at-if1 .before in
     let at-enum-told = at-too-far .before .before .before .before .before in
     let at-examine = at-enum-told .before .before .before .before in
-    let at-entry = at-examine .before .before .before .before .before .before .before .before .before .before .before .before in
-    can-lengthen (at-examine .examine .ensures) _ (at-enum-told .enum-told .given .1) (omega (arith, at-entry .good)) (at-too-far .too-far .ensures) (at-if1 .if1 .left)
+    let at-entry =
+    at-examine .before .before .before .before .before .before .before .before .before .before .before .before in
+    can-lengthen (at-examine .examine .ensures) _ (at-enum-told .enum-told .given .1) (omega (arith, at-entry .good))
+    (at-too-far .too-far .ensures) (at-if1 .if1 .left)
 
 same-length-5 : tie.Need-same-length-5
 same-length-5 c = search needs
@@ -89,7 +93,8 @@ returns-3 c =
     let at-too-far = at-if1 .before in
     let at-enum-told = at-too-far .before .before .before .before .before in
     let at-examine = at-enum-told .before .before .before .before in
-    lengthened (at-examine .examine .ensures) _ (at-enum-told .enum-told .given .1) (at-too-far .too-far .ensures) (at-if1 .if1 .left) (at-stretch .stretch .ensures)
+    lengthened (at-examine .examine .ensures) _ (at-enum-told .enum-told .given .1) (at-too-far .too-far .ensures)
+    (at-if1 .if1 .left) (at-stretch .stretch .ensures)
 
 pub lengthen-within-spec : {M : Type 1} → statement M
 lengthen-within-spec =

@@ -1,75 +1,59 @@
 -- The places of the subtree up to number j are moved.
-use mathlib.Core.Path.{ap, _∙_}
-use Prim.Native.Nat.{ℕ, _-_}
+use mathlib.Core.Path.{sym, _∙_}
+use Prim.Native.Nat.{_-_}
 use native.Mathlib.Omega.{arith}
-use lib.ListN.{set}
-use Rattle.drawing.specs.Parts.{by}
-use Rattle.drawing.proofs.Subtrees.{Moving, first-some, last-most, visit, moving-start, moving-here, moving-step, moving-end, movable-fits}
+use Rattle.drawing.proofs.Subtrees.{Moving, first-some, walk-node, moving-start, moving-can, moving-fits}
+use Rattle.drawing.proofs.Subtrees.{moving-step, moving-end}
 use Rattle.drawing.proofs.move_subtree.Statement.{statement}
 use Rattle.drawing.proofs.move_subtree.Tie as tie
 
 abbrev Inv-loop : tie.InvT-loop
-Inv-loop parent rank work places₀ v d longer n last j₀ places j = Moving parent rank (λ a. by longer a d) places₀ places v j
+Inv-loop parent rank work places₀ v d longer n last j₀ places j =
+    Moving parent rank work places₀ v d longer places last j
 
 abbrev μ-loop : tie.MeasureT-loop
 μ-loop parent rank work places₀ v d longer n last j₀ places j = last - j
 
 get-requires : tie.Need-get-requires Inv-loop μ-loop
-get-requires c κs =
-    let at-entry = c .before .before .before .before in
-    omega (arith, at-entry .pre .0 .numbers .long, at-entry .pre .2)
+get-requires c κs = omega arith
 
 mul-get : tie.Need-mul-get Inv-loop μ-loop
-mul-get c =
-    let at-entry = c .before .before .before .before .before in
-    omega (arith, at-entry .pre .0 .few)
+mul-get c = omega arith
 
 add-get : tie.Need-add-get Inv-loop μ-loop
-add-get c =
-    let at-entry = c .before .before .before .before .before in
-    omega (arith, at-entry .pre .0 .few, at-entry .pre .2)
+add-get c = omega arith
 
 get-requires-2 : tie.Need-get-requires-2 Inv-loop μ-loop
-get-requires-2 c κs =
-    let at-entry = c .before .before .before .before .before in
-    omega (arith, at-entry .pre .0 .numbers .long, at-entry .pre .2)
+get-requires-2 c κs = omega arith
 
 sub-j : tie.Need-sub-j Inv-loop μ-loop
 sub-j c =
     let at-entry = c .before .before .before .before .before .before in
-    first-some (at-entry .pre .0) (at-entry .pre .2) (c .get2 .ensures .0)
+    first-some (at-entry .pre .0) _ (at-entry .pre .2) (c .get2 .ensures .0)
 
 loop-holds : tie.Need-loop-holds Inv-loop μ-loop
 loop-holds c =
-    let at-entry = c .before .before .before .before .before .before in
-    moving-start (at-entry .pre .0) (at-entry .pre .2) _ _ (c .get2 .ensures .0)
+    let at-get = c .before in
+    let at-entry = at-get .before .before .before .before .before in
+    moving-start (at-entry .pre .0) (at-entry .pre .1) (at-entry .pre .2) (at-get .get .ensures .0)
+    (c .get2 .ensures .0)
 
 mul-get-2 : tie.Need-mul-get-2 Inv-loop μ-loop
-mul-get-2 c =
-    let at-entry = c .before .before .before .before .before .before .before .before in
-    omega (arith, at-entry .pre .0 .few)
+mul-get-2 c = omega arith
 
 add-get-2 : tie.Need-add-get-2 Inv-loop μ-loop
-add-get-2 c =
-    let at-get = c .before .before .before in
-    let at-entry = at-get .before .before .before .before .before in
-    omega (arith, at-entry .pre .0 .few, last-most (at-entry .pre .0) (at-entry .pre .2) (at-get .get .ensures .0), c .loop-test .taken)
+add-get-2 c = omega arith
 
 get-requires-3 : tie.Need-get-requires-3 Inv-loop μ-loop
-get-requires-3 c κs =
-    let at-get = c .before .before .before in
-    let at-entry = at-get .before .before .before .before .before in
-    omega (arith, at-entry .pre .0 .numbers .long, last-most (at-entry .pre .0) (at-entry .pre .2) (at-get .get .ensures .0), c .loop-test .taken)
+get-requires-3 c κs = omega arith
 
 get-requires-4 : tie.Need-get-requires-4 Inv-loop μ-loop
 get-requires-4 c κs =
     let at-get3 = c .before in
     let at-loop-test = at-get3 .before in
     let at-loop = at-loop-test .before in
-    let at-get = at-loop .before .before in
-    let at-entry = at-get .before .before .before .before .before in
-    let node = visit (at-entry .pre .0) (at-entry .pre .2) (at-loop .loop .inv .low) (at-loop-test .loop-test .taken) (at-get .get .ensures .0) (at-get3 .get3 .ensures .0) in
-    omega (arith, at-entry .pre .1 .long, at-loop .loop .inv .long, node .inside)
+    let node = walk-node (at-loop .loop .inv .walk) (at-loop-test .loop-test .taken) (at-get3 .get3 .ensures .0) in
+    omega (arith, at-loop .loop .inv .long, node .inside)
 
 changed-requires : tie.Need-changed-requires Inv-loop μ-loop
 changed-requires c κs =
@@ -77,11 +61,8 @@ changed-requires c κs =
     let at-get3 = at-get4 .before .before in
     let at-loop-test = at-get3 .before in
     let at-loop = at-loop-test .before in
-    let at-get = at-loop .before .before in
-    let at-entry = at-get .before .before .before .before .before in
-    let node = visit (at-entry .pre .0) (at-entry .pre .2) (at-loop .loop .inv .low) (at-loop-test .loop-test .taken) (at-get .get .ensures .0) (at-get3 .get3 .ensures .0) in
-    let here = moving-here (at-entry .pre .0) (at-entry .pre .2) (at-loop .loop .inv) (at-entry .pre .1 .long) node (at-get4 .get4 .ensures .0) in
-    (λ e. omega (arith, at-get4 .get4 .ensures .1, at-entry .pre .3), λ e. omega (arith, at-entry .pre .1 .back e _ (node .inside) (node .under-v)))
+    let node = walk-node (at-loop .loop .inv .walk) (at-loop-test .loop-test .taken) (at-get3 .get3 .ensures .0) in
+    moving-can (at-loop .loop .inv) node (at-get4 .get4 .ensures .0)
 
 put-requires : tie.Need-put-requires Inv-loop μ-loop
 put-requires c κs =
@@ -89,22 +70,15 @@ put-requires c κs =
     let at-get3 = at-get4 .before .before in
     let at-loop-test = at-get3 .before in
     let at-loop = at-loop-test .before in
-    let at-get = at-loop .before .before in
-    let at-entry = at-get .before .before .before .before .before in
-    let node = visit (at-entry .pre .0) (at-entry .pre .2) (at-loop .loop .inv .low) (at-loop-test .loop-test .taken) (at-get .get .ensures .0) (at-get3 .get3 .ensures .0) in
-    let here = moving-here (at-entry .pre .0) (at-entry .pre .2) (at-loop .loop .inv) (at-entry .pre .1 .long) node (at-get4 .get4 .ensures .0) in
-    (omega (arith, at-entry .pre .1 .long, at-loop .loop .inv .long, node .inside), omega (arith, c .changed .ensures, movable-fits (at-entry .pre .1) _ _ (node .inside) (node .under-v) here (at-get4 .get4 .ensures .1)))
+    let node = walk-node (at-loop .loop .inv .walk) (at-loop-test .loop-test .taken) (at-get3 .get3 .ensures .0) in
+    let fits = moving-fits (at-loop .loop .inv) node (at-get4 .get4 .ensures .0) (at-get4 .get4 .ensures .1) in
+    (omega (arith, at-loop .loop .inv .long, node .inside), omega (arith, c .changed .ensures))
 
 add-j : tie.Need-add-j Inv-loop μ-loop
-add-j c =
-    let at-loop-test = c .before .before .before .before .before .before .before .before in
-    let at-get = at-loop-test .before .before .before in
-    omega (arith, at-loop-test .loop-test .taken, at-get .get .ensures .1)
+add-j c = omega arith
 
 loop-less : tie.Need-loop-less Inv-loop μ-loop
-loop-less c =
-    let at-loop-test = c .before .before .before .before .before .before .before .before in
-    omega (arith, at-loop-test .loop-test .taken)
+loop-less c = omega arith
 
 loop-again : tie.Need-loop-again Inv-loop μ-loop
 loop-again c =
@@ -114,23 +88,19 @@ loop-again c =
     let at-get3 = at-get4 .before .before in
     let at-loop-test = at-get3 .before in
     let at-loop = at-loop-test .before in
-    let at-get = at-loop .before .before in
-    let at-entry = at-get .before .before .before .before .before in
-    let node = visit (at-entry .pre .0) (at-entry .pre .2) (at-loop .loop .inv .low) (at-loop-test .loop-test .taken) (at-get .get .ensures .0) (at-get3 .get3 .ensures .0) in
-    moving-step (at-entry .pre .0) (at-entry .pre .2) (at-loop .loop .inv) (at-entry .pre .1 .long) node (at-get4 .get4 .ensures .0)
-    (at-put .put .ensures ∙ ap (λ (k : ℕ). set (at-loop .loop .places) (at-get3 .get3 .result) k) (at-changed .changed .ensures))
+    let node = walk-node (at-loop .loop .inv .walk) (at-loop-test .loop-test .taken) (at-get3 .get3 .ensures .0) in
+    moving-step (at-loop .loop .inv) (at-loop-test .loop-test .taken) node (at-get4 .get4 .ensures .0)
+    (at-changed .changed .ensures) (at-put .put .ensures)
 
 same-length : tie.Need-same-length Inv-loop μ-loop
 same-length c =
     let at-loop = c .before in
-    at-loop .loop .inv .long
+    at-loop .loop .inv .long ∙ sym (at-loop .loop .inv .can .long)
 
 returns : tie.Need-returns Inv-loop μ-loop
 returns c =
     let at-loop = c .before in
-    let at-get = at-loop .before .before in
-    let at-entry = at-get .before .before .before .before .before in
-    moving-end (at-entry .pre .0) (at-entry .pre .2) (at-loop .loop .inv) (at-entry .pre .1 .long) (at-get .get .ensures .0) (c .loop-test .left)
+    moving-end (at-loop .loop .inv) (c .loop-test .left)
 
 pub move-subtree-spec : {M : Type 1} → statement M
 move-subtree-spec =

@@ -14,7 +14,8 @@ returns : tie.Need-returns
 returns c =
     let at-get = c .before in
     let at-entry = at-get .before .before .before .before .before .before .before in
-    fits-never _ _ _ _ (lent (at-entry .args .times .now) (at-entry .args .x .now) (at-entry .args .y .now)) (at-entry .pre .1) (at-get .get .ensures .0) (c .if1 .taken)
+    let drawing = lent (at-entry .args .times .now) (at-entry .args .x .now) (at-entry .args .y .now) in
+    fits-never _ _ _ _ drawing (at-entry .pre .1) (at-get .get .ensures .0) (c .if1 .taken)
 
 get-requires-2 : tie.Need-get-requires-2
 get-requires-2 c κs = search needs
@@ -34,7 +35,10 @@ mul-placed : tie.Need-mul-placed
 mul-placed c =
     let at-slope-at = c .before in
     let at-get = at-slope-at .before .before .before .before in
-    omega (arith, product-fits (at-get .get .result) (at-slope-at .slope-at .result .across) (at-get .get .ensures .1) (omega (arith, c .struct-known .given)))
+    let slope = at-slope-at .slope-at .result in
+    let fits = product-fits (at-get .get .result) (slope .across) (at-get .get .ensures .1)
+    (omega (arith, c .struct-known .given)) in
+    omega arith
 
 placed-requires : tie.Need-placed-requires
 placed-requires c κs =
@@ -42,8 +46,12 @@ placed-requires c κs =
     let at-get2 = at-slope-at .before .before in
     let at-get = at-get2 .before .before in
     let at-entry = at-get .before .before .before .before .before .before .before in
+    let slope = at-slope-at .slope-at .result in
     let inside = at-entry .pre .0 .numbered .tree .inside (at-entry .args .v) (at-entry .pre .2) in
-    (omega (arith, at-get2 .get2 .ensures .0, at-entry .pre .0 .x), omega (arith, at-entry .pre .2, at-entry .pre .0 .x), product-fits (at-get .get .result) (at-slope-at .slope-at .result .across) (at-get .get .ensures .1) (omega (arith, c .struct-known .given)))
+    let fits = product-fits (at-get .get .result) (slope .across) (at-get .get .ensures .1)
+    (omega (arith, c .struct-known .given)) in
+    (omega (arith, at-get2 .get2 .ensures .0, at-entry .pre .0 .x), omega
+    (arith, at-entry .pre .2, at-entry .pre .0 .x), fits)
 
 returns-2 : tie.Need-returns-2
 returns-2 c =
@@ -54,7 +62,9 @@ returns-2 c =
     let at-if1 = at-get2 .before in
     let at-get = at-if1 .before in
     let at-entry = at-get .before .before .before .before .before .before .before in
-    fits-not-x _ _ _ _ _ (at-entry .pre .1) (at-get .get .ensures .0) (at-get2 .get2 .ensures .0) (edge-slope (at-entry .pre .0 .numbered) (at-entry .pre .1) (at-entry .pre .2) (at-entry .args .rule) (at-get3 .get3 .ensures .0) (at-slope-at .slope-at .ensures))
+    let is = edge-slope (at-entry .pre .0 .numbered) (at-entry .pre .1) (at-entry .pre .2) (at-entry .args .rule)
+    (at-get3 .get3 .ensures .0) (at-slope-at .slope-at .ensures) in
+    fits-not-x _ _ _ _ _ (at-entry .pre .1) (at-get .get .ensures .0) (at-get2 .get2 .ensures .0) is
     (at-if1 .if1 .left) (at-placed .placed .ensures) (not-true _ (c .if2 .taken))
 
 cast-placed-2 : tie.Need-cast-placed-2
@@ -64,7 +74,10 @@ mul-placed-2 : tie.Need-mul-placed-2
 mul-placed-2 c =
     let at-slope-at = c .before .before .before .before in
     let at-get = at-slope-at .before .before .before .before in
-    omega (arith, product-fits (at-get .get .result) (at-slope-at .slope-at .result .up) (at-get .get .ensures .1) (omega (arith, c .struct-known2 .given)))
+    let slope = at-slope-at .slope-at .result in
+    let fits = product-fits (at-get .get .result) (slope .up) (at-get .get .ensures .1)
+    (omega (arith, c .struct-known2 .given)) in
+    omega arith
 
 placed-requires-2 : tie.Need-placed-requires-2
 placed-requires-2 c κs =
@@ -72,8 +85,12 @@ placed-requires-2 c κs =
     let at-get2 = at-slope-at .before .before in
     let at-get = at-get2 .before .before in
     let at-entry = at-get .before .before .before .before .before .before .before in
+    let slope = at-slope-at .slope-at .result in
     let inside = at-entry .pre .0 .numbered .tree .inside (at-entry .args .v) (at-entry .pre .2) in
-    (omega (arith, at-get2 .get2 .ensures .0, at-entry .pre .0 .y), omega (arith, at-entry .pre .2, at-entry .pre .0 .y), product-fits (at-get .get .result) (at-slope-at .slope-at .result .up) (at-get .get .ensures .1) (omega (arith, c .struct-known2 .given)))
+    let fits = product-fits (at-get .get .result) (slope .up) (at-get .get .ensures .1)
+    (omega (arith, c .struct-known2 .given)) in
+    (omega (arith, at-get2 .get2 .ensures .0, at-entry .pre .0 .y), omega
+    (arith, at-entry .pre .2, at-entry .pre .0 .y), fits)
 
 returns-3 : tie.Need-returns-3
 returns-3 c =
@@ -85,7 +102,9 @@ returns-3 c =
     let at-if1 = at-get2 .before in
     let at-get = at-if1 .before in
     let at-entry = at-get .before .before .before .before .before .before .before in
-    fits-x _ _ _ _ _ (at-entry .pre .1) (at-get .get .ensures .0) (at-get2 .get2 .ensures .0) (edge-slope (at-entry .pre .0 .numbered) (at-entry .pre .1) (at-entry .pre .2) (at-entry .args .rule) (at-get3 .get3 .ensures .0) (at-slope-at .slope-at .ensures))
+    let is = edge-slope (at-entry .pre .0 .numbered) (at-entry .pre .1) (at-entry .pre .2) (at-entry .args .rule)
+    (at-get3 .get3 .ensures .0) (at-slope-at .slope-at .ensures) in
+    fits-x _ _ _ _ _ (at-entry .pre .1) (at-get .get .ensures .0) (at-get2 .get2 .ensures .0) is
     (at-if1 .if1 .left) (at-placed .placed .ensures) (not-false _ (at-if2 .if2 .left)) (c .placed2 .ensures)
 
 pub node-fits-spec : {M : Type 1} → statement M

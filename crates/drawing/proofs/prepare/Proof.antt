@@ -24,7 +24,9 @@ number-requires c κs =
     let at-validate = at-enum-told .before .before .before .before in
     let at-all-long = at-validate .before .before in
     let at-entry = at-all-long .before .before .before .before .before .before .before in
-    prepared-ready (at-entry .args .limits) _ _ (lent (at-entry .args .times .now) (at-entry .args .x .now) (at-entry .args .y .now)) (at-all-long .all-long .ensures) (at-validate .validate .ensures) (omega (arith, at-entry .good)) (at-enum-told .enum-told .given .1)
+    let drawing = lent (at-entry .args .times .now) (at-entry .args .x .now) (at-entry .args .y .now) in
+    prepared-ready (at-entry .args .limits) _ _ drawing (at-all-long .all-long .ensures)
+    (at-validate .validate .ensures) (omega arith) (at-enum-told .enum-told .given .1)
 
 same-length : tie.Need-same-length
 same-length c = search needs
@@ -34,7 +36,8 @@ returns c =
     let at-valid = c .before in
     let at-validate = at-valid .before .before .before .before in
     let at-all-long = at-validate .before .before in
-    prepared-refused _ _ _ _ (at-all-long .all-long .ensures) (at-validate .validate .ensures) (at-valid .valid .given .1)
+    prepared-refused _ _ _ _ (at-all-long .all-long .ensures) (at-validate .validate .ensures)
+    (at-valid .valid .given .1)
 
 same-length-2 : tie.Need-same-length-2
 same-length-2 c = search needs
@@ -46,7 +49,9 @@ returns-2 c =
     let at-validate = at-enum-told .before .before .before .before in
     let at-all-long = at-validate .before .before in
     let at-entry = at-all-long .before .before .before .before .before .before .before in
-    prepared-accepted _ _ _ _ (at-all-long .all-long .ensures) (at-validate .validate .ensures) (omega (arith, at-entry .good)) (at-enum-told .enum-told .given .1) (at-number .number .ensures)
+    prepared-accepted _ _ _ _ (at-all-long .all-long .ensures) (at-validate .validate .ensures)
+    (omega (arith, at-entry .good))
+    (at-enum-told .enum-told .given .1) (at-number .number .ensures)
 
 pub prepare-spec : {M : Type 1} → statement M
 prepare-spec =

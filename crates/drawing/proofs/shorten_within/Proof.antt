@@ -38,7 +38,8 @@ returns c =
     let at-get = c .before in
     let at-enum-told = at-get .before .before in
     let at-examine = at-enum-told .before .before .before .before in
-    shortened-12 (at-examine .examine .ensures) _ (at-enum-told .enum-told .given .1) (at-get .get .ensures .0) (c .if1 .taken)
+    shortened-12 (at-examine .examine .ensures) _ (at-enum-told .enum-told .given .1) (at-get .get .ensures .0)
+    (c .if1 .taken)
 
 stretch-requires : tie.Need-stretch-requires
 stretch-requires c κs =
@@ -46,7 +47,8 @@ stretch-requires c κs =
     let at-get = at-if1 .before in
     let at-enum-told = at-get .before .before in
     let at-examine = at-enum-told .before .before .before .before in
-    can-shorten (at-examine .examine .ensures) _ (at-enum-told .enum-told .given .1) (at-get .get .ensures .0) (at-if1 .if1 .left)
+    can-shorten (at-examine .examine .ensures) _ (at-enum-told .enum-told .given .1) (at-get .get .ensures .0)
+    (at-if1 .if1 .left)
 
 same-length-5 : tie.Need-same-length-5
 same-length-5 c = search needs
@@ -85,7 +87,8 @@ returns-3 c =
     let at-get = at-if1 .before in
     let at-enum-told = at-get .before .before in
     let at-examine = at-enum-told .before .before .before .before in
-    shortened (at-examine .examine .ensures) _ (at-enum-told .enum-told .given .1) (at-get .get .ensures .0) (at-if1 .if1 .left) (at-stretch .stretch .ensures)
+    shortened (at-examine .examine .ensures) _ (at-enum-told .enum-told .given .1) (at-get .get .ensures .0)
+    (at-if1 .if1 .left) (at-stretch .stretch .ensures)
 
 pub shorten-within-spec : {M : Type 1} → statement M
 shorten-within-spec =

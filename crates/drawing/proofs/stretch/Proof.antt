@@ -23,15 +23,20 @@ mul-move-subtree : tie.Need-mul-move-subtree
 mul-move-subtree c =
     let at-slope-at = c .before .before in
     let at-entry = at-slope-at .before .before .before .before .before .before .before .before in
-    omega (arith, product-fits (at-entry .args .count) (at-slope-at .slope-at .result .across) (omega (arith, at-entry .fits .count)) (omega (arith, c .struct-known .given)))
+    let slope = at-slope-at .slope-at .result in
+    let fits = product-fits (at-entry .args .count) (slope .across) (omega (arith, at-entry .fits .count))
+    (omega (arith, c .struct-known .given)) in
+    omega arith
 
 move-subtree-requires : tie.Need-move-subtree-requires
 move-subtree-requires c κs =
     let at-slope-at = c .before .before in
     let at-get = at-slope-at .before in
     let at-entry = at-get .before .before .before .before .before .before .before in
-    let slope = edge-slope (at-entry .pre .numbered) (at-entry .pre .above) (at-entry .pre .inside) (at-entry .args .rule) (at-get .get .ensures .0) (at-slope-at .slope-at .ensures) in
-    (at-entry .pre .numbered, movable-at acrossOf (at-entry .args .count) slope (at-entry .pre .x), at-entry .pre .inside, product-fits (at-entry .args .count) (at-slope-at .slope-at .result .across) (omega (arith, at-entry .fits .count)) (omega (arith, c .struct-known .given)))
+    let is =
+    edge-slope (at-entry .pre .numbered) (at-entry .pre .above) (at-entry .pre .inside) (at-entry .args .rule)
+    (at-get .get .ensures .0) (at-slope-at .slope-at .ensures) in
+    (at-entry .pre .numbered, movable-at acrossOf (at-entry .args .count) is (at-entry .pre .x), at-entry .pre .inside)
 
 cast-move-subtree-2 : tie.Need-cast-move-subtree-2
 cast-move-subtree-2 c = search needs
@@ -40,15 +45,20 @@ mul-move-subtree-2 : tie.Need-mul-move-subtree-2
 mul-move-subtree-2 c =
     let at-slope-at = c .before .before .before .before .before .before .before in
     let at-entry = at-slope-at .before .before .before .before .before .before .before .before in
-    omega (arith, product-fits (at-entry .args .count) (at-slope-at .slope-at .result .up) (omega (arith, at-entry .fits .count)) (omega (arith, c .struct-known2 .given)))
+    let slope = at-slope-at .slope-at .result in
+    let fits = product-fits (at-entry .args .count) (slope .up) (omega (arith, at-entry .fits .count))
+    (omega (arith, c .struct-known2 .given)) in
+    omega arith
 
 move-subtree-requires-2 : tie.Need-move-subtree-requires-2
 move-subtree-requires-2 c κs =
     let at-slope-at = c .before .before .before .before .before .before .before in
     let at-get = at-slope-at .before in
     let at-entry = at-get .before .before .before .before .before .before .before in
-    let slope = edge-slope (at-entry .pre .numbered) (at-entry .pre .above) (at-entry .pre .inside) (at-entry .args .rule) (at-get .get .ensures .0) (at-slope-at .slope-at .ensures) in
-    (at-entry .pre .numbered, movable-at upOf (at-entry .args .count) slope (at-entry .pre .y), at-entry .pre .inside, product-fits (at-entry .args .count) (at-slope-at .slope-at .result .up) (omega (arith, at-entry .fits .count)) (omega (arith, c .struct-known2 .given)))
+    let is =
+    edge-slope (at-entry .pre .numbered) (at-entry .pre .above) (at-entry .pre .inside) (at-entry .args .rule)
+    (at-get .get .ensures .0) (at-slope-at .slope-at .ensures) in
+    (at-entry .pre .numbered, movable-at upOf (at-entry .args .count) is (at-entry .pre .y), at-entry .pre .inside)
 
 get-requires-2 : tie.Need-get-requires-2
 get-requires-2 c κs = search needs
@@ -56,14 +66,20 @@ get-requires-2 c κs = search needs
 changed-requires : tie.Need-changed-requires
 changed-requires c κs =
     let at-get2 = c .before in
-    let at-entry = at-get2 .before .before .before .before .before .before .before .before .before .before .before .before .before .before .before .before .before .before .before .before in
-    (λ e. omega (arith, at-entry .pre .more e, at-get2 .get2 .ensures .0), λ e. omega (arith, at-entry .pre .less e, at-get2 .get2 .ensures .0))
+    let at-entry =
+    at-get2 .before .before .before .before .before .before .before .before .before .before .before .before .before
+    .before .before .before .before .before .before .before in
+    let here = at-get2 .get2 .ensures .0 in
+    (λ e. omega (arith, at-entry .pre .more e), λ e. omega (arith, at-entry .pre .less e))
 
 put-requires : tie.Need-put-requires
 put-requires c κs =
     let at-get2 = c .before .before in
-    let at-entry = at-get2 .before .before .before .before .before .before .before .before .before .before .before .before .before .before .before .before .before .before .before .before in
-    (omega (arith, at-entry .pre .long, at-entry .pre .inside), omega (arith, c .changed .ensures, times-fit (at-entry .pre) _ (at-get2 .get2 .ensures .0) (at-get2 .get2 .ensures .1)))
+    let at-entry =
+    at-get2 .before .before .before .before .before .before .before .before .before .before .before .before .before
+    .before .before .before .before .before .before .before in
+    let fits = times-fit (at-entry .pre) _ (at-get2 .get2 .ensures .0) (at-get2 .get2 .ensures .1) in
+    (omega (arith, at-entry .pre .long, at-entry .pre .inside), omega (arith, c .changed .ensures))
 
 frame-of-requires : tie.Need-frame-of-requires
 frame-of-requires c κs = search needs
@@ -88,8 +104,11 @@ returns c =
     let at-slope-at = at-move-subtree .before .before .before in
     let at-get = at-slope-at .before in
     let at-entry = at-get .before .before .before .before .before .before .before in
-    stretched-is (edge-slope (at-entry .pre .numbered) (at-entry .pre .above) (at-entry .pre .inside) (at-entry .args .rule) (at-get .get .ensures .0) (at-slope-at .slope-at .ensures))
-    (at-get2 .get2 .ensures .0) (at-changed .changed .ensures) (at-put .put .ensures) (at-move-subtree .move-subtree .ensures) (at-move-subtree2 .move-subtree2 .ensures) (c .frame-of .ensures)
+    let is =
+    edge-slope (at-entry .pre .numbered) (at-entry .pre .above) (at-entry .pre .inside) (at-entry .args .rule)
+    (at-get .get .ensures .0) (at-slope-at .slope-at .ensures) in
+    stretched-is is (at-get2 .get2 .ensures .0) (at-changed .changed .ensures) (at-put .put .ensures)
+    (at-move-subtree .move-subtree .ensures) (at-move-subtree2 .move-subtree2 .ensures) (c .frame-of .ensures)
 
 pub stretch-spec : {M : Type 1} → statement M
 stretch-spec =

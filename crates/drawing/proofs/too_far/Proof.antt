@@ -22,13 +22,19 @@ mul-passes : tie.Need-mul-passes
 mul-passes c =
     let at-slope-at = c .before in
     let at-entry = at-slope-at .before .before .before .before .before .before .before .before in
-    omega (arith, product-fits (at-entry .args .count) (at-slope-at .slope-at .result .across) (omega (arith, at-entry .fits .count)) (omega (arith, c .struct-known .given)))
+    let slope = at-slope-at .slope-at .result in
+    let fits = product-fits (at-entry .args .count) (slope .across) (omega (arith, at-entry .fits .count))
+    (omega (arith, c .struct-known .given)) in
+    omega arith
 
 passes-requires : tie.Need-passes-requires
 passes-requires c κs =
     let at-slope-at = c .before in
     let at-entry = at-slope-at .before .before .before .before .before .before .before .before in
-    (at-entry .pre .0, at-entry .pre .1 .x .long, at-entry .pre .3, product-fits (at-entry .args .count) (at-slope-at .slope-at .result .across) (omega (arith, at-entry .fits .count)) (omega (arith, c .struct-known .given)))
+    let slope = at-slope-at .slope-at .result in
+    let fits = product-fits (at-entry .args .count) (slope .across) (omega (arith, at-entry .fits .count))
+    (omega (arith, c .struct-known .given)) in
+    (at-entry .pre .0, at-entry .pre .1 .x .long, at-entry .pre .3, fits)
 
 returns : tie.Need-returns
 returns c =
@@ -36,7 +42,10 @@ returns c =
     let at-slope-at = at-passes .before .before in
     let at-get = at-slope-at .before in
     let at-entry = at-get .before .before .before .before .before .before .before in
-    too-far-x _ _ _ _ (lent (at-entry .args .times .now) (at-entry .args .x .now) (at-entry .args .y .now)) _ _ (edge-slope (at-entry .pre .0) (at-entry .pre .2) (at-entry .pre .3) (at-entry .args .rule) (at-get .get .ensures .0) (at-slope-at .slope-at .ensures)) (at-passes .passes .ensures) (c .if1 .taken)
+    let drawing = lent (at-entry .args .times .now) (at-entry .args .x .now) (at-entry .args .y .now) in
+    let is = edge-slope (at-entry .pre .0) (at-entry .pre .2) (at-entry .pre .3) (at-entry .args .rule)
+    (at-get .get .ensures .0) (at-slope-at .slope-at .ensures) in
+    too-far-x _ _ _ _ drawing _ _ is (at-passes .passes .ensures) (c .if1 .taken)
 
 cast-passes-2 : tie.Need-cast-passes-2
 cast-passes-2 c = search needs
@@ -45,13 +54,19 @@ mul-passes-2 : tie.Need-mul-passes-2
 mul-passes-2 c =
     let at-slope-at = c .before .before .before .before in
     let at-entry = at-slope-at .before .before .before .before .before .before .before .before in
-    omega (arith, product-fits (at-entry .args .count) (at-slope-at .slope-at .result .up) (omega (arith, at-entry .fits .count)) (omega (arith, c .struct-known2 .given)))
+    let slope = at-slope-at .slope-at .result in
+    let fits = product-fits (at-entry .args .count) (slope .up) (omega (arith, at-entry .fits .count))
+    (omega (arith, c .struct-known2 .given)) in
+    omega arith
 
 passes-requires-2 : tie.Need-passes-requires-2
 passes-requires-2 c κs =
     let at-slope-at = c .before .before .before .before in
     let at-entry = at-slope-at .before .before .before .before .before .before .before .before in
-    (at-entry .pre .0, at-entry .pre .1 .y .long, at-entry .pre .3, product-fits (at-entry .args .count) (at-slope-at .slope-at .result .up) (omega (arith, at-entry .fits .count)) (omega (arith, c .struct-known2 .given)))
+    let slope = at-slope-at .slope-at .result in
+    let fits = product-fits (at-entry .args .count) (slope .up) (omega (arith, at-entry .fits .count))
+    (omega (arith, c .struct-known2 .given)) in
+    (at-entry .pre .0, at-entry .pre .1 .y .long, at-entry .pre .3, fits)
 
 returns-2 : tie.Need-returns-2
 returns-2 c =
@@ -60,7 +75,11 @@ returns-2 c =
     let at-slope-at = at-passes .before .before in
     let at-get = at-slope-at .before in
     let at-entry = at-get .before .before .before .before .before .before .before in
-    too-far-else _ _ _ _ (lent (at-entry .args .times .now) (at-entry .args .x .now) (at-entry .args .y .now)) _ _ (edge-slope (at-entry .pre .0) (at-entry .pre .2) (at-entry .pre .3) (at-entry .args .rule) (at-get .get .ensures .0) (at-slope-at .slope-at .ensures)) (at-entry .pre .1) (at-passes .passes .ensures) (at-if1 .if1 .left) (c .passes2 .ensures)
+    let drawing = lent (at-entry .args .times .now) (at-entry .args .x .now) (at-entry .args .y .now) in
+    let is = edge-slope (at-entry .pre .0) (at-entry .pre .2) (at-entry .pre .3) (at-entry .args .rule)
+    (at-get .get .ensures .0) (at-slope-at .slope-at .ensures) in
+    too-far-else _ _ _ _ drawing _ _ is (at-entry .pre .1) (at-passes .passes .ensures) (at-if1 .if1 .left)
+    (c .passes2 .ensures)
 
 pub too-far-spec : {M : Type 1} → statement M
 too-far-spec =

@@ -5,8 +5,8 @@ use lib.ListN.{length}
 use borrow.Author.Tests.{not-true, not-false}
 use Rattle.drawing.specs.Drawing.{lent}
 use Rattle.drawing.proofs.Fitting.{Fitting, fitting-root, fitting-start, fitting-step, fitting-not, fitting-end}
-use Rattle.drawing.proofs.misfit.Statement.{statement}
-use Rattle.drawing.proofs.misfit.Tie as tie
+use Rattle.drawing.proofs.first_misfit.Statement.{statement}
+use Rattle.drawing.proofs.first_misfit.Tie as tie
 
 abbrev Inv-loop : tie.InvT-loop
 Inv-loop limit rule parent rank times x y work n root v₀ v = Fitting limit parent rank rule (lent times x y) v
@@ -15,21 +15,21 @@ abbrev μ-loop : tie.MeasureT-loop
 μ-loop limit rule parent rank times x y work n root v₀ v = length parent - v
 
 root-fits-requires : tie.Need-root-fits-requires Inv-loop μ-loop
-root-fits-requires c κs =
-    let at-entry = c .before .before .before .before .before .before in
-    (omega (arith, at-entry .pre .numbered .tree .some, at-entry .pre .times), omega (arith, at-entry .pre .numbered .tree .some, at-entry .pre .x), omega (arith, at-entry .pre .numbered .tree .some, at-entry .pre .y))
+root-fits-requires c κs = omega arith
 
 returns : tie.Need-returns Inv-loop μ-loop
 returns c =
     let at-root-fits = c .before in
     let at-entry = at-root-fits .before .before .before .before .before .before .before in
-    fitting-root _ _ _ _ _ (at-entry .pre .numbered .tree .some) (at-root-fits .root-fits .ensures) (not-true _ (c .if1 .taken))
+    fitting-root _ _ _ _ _ (at-entry .pre .numbered .tree .some) (at-root-fits .root-fits .ensures)
+    (not-true _ (c .if1 .taken))
 
 loop-holds : tie.Need-loop-holds Inv-loop μ-loop
 loop-holds c =
     let at-root-fits = c .before in
     let at-entry = at-root-fits .before .before .before .before .before .before .before in
-    fitting-start _ _ _ _ _ (at-entry .pre .numbered .tree .some) (at-root-fits .root-fits .ensures) (not-false _ (c .if1 .left))
+    fitting-start _ _ _ _ _ (at-entry .pre .numbered .tree .some) (at-root-fits .root-fits .ensures)
+    (not-false _ (c .if1 .left))
 
 node-fits-requires : tie.Need-node-fits-requires Inv-loop μ-loop
 node-fits-requires c κs =
@@ -42,7 +42,8 @@ returns-2 c =
     let at-node-fits = c .before in
     let at-loop-test = at-node-fits .before in
     let at-loop = at-loop-test .before in
-    fitting-not (at-loop .loop .inv) (at-loop-test .loop-test .taken) (at-node-fits .node-fits .ensures) (not-true _ (c .if2 .taken))
+    fitting-not (at-loop .loop .inv) (at-loop-test .loop-test .taken) (at-node-fits .node-fits .ensures)
+    (not-true _ (c .if2 .taken))
 
 add-v : tie.Need-add-v Inv-loop μ-loop
 add-v c = omega arith
@@ -55,15 +56,16 @@ loop-again c =
     let at-node-fits = c .before in
     let at-loop-test = at-node-fits .before in
     let at-loop = at-loop-test .before in
-    fitting-step (at-loop .loop .inv) (at-loop-test .loop-test .taken) (at-node-fits .node-fits .ensures) (not-false _ (c .if2 .left))
+    fitting-step (at-loop .loop .inv) (at-loop-test .loop-test .taken) (at-node-fits .node-fits .ensures)
+    (not-false _ (c .if2 .left))
 
 returns-3 : tie.Need-returns-3 Inv-loop μ-loop
 returns-3 c =
     let at-loop = c .before in
     fitting-end (at-loop .loop .inv) (c .loop-test .left)
 
-pub misfit-spec : {M : Type 1} → statement M
-misfit-spec =
+pub first-misfit-spec : {M : Type 1} → statement M
+first-misfit-spec =
     tie.close
     (tie.spec
     Inv-loop
