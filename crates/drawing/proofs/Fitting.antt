@@ -17,8 +17,8 @@ use Rattle.slopes.specs.declared.Rule.{Rule}
 use Rattle.slopes.specs.declared.Slope.{Slope}
 use Rattle.slopes.specs.Slopes.{acrossOf, upOf, slopeAt}
 use Rattle.drawing.specs.Drawing.{Drawing, edge, placed, nodeFits}
-use Rattle.drawing.specs.DrawingLaws.{stepOf, placed-root, placed-node, fits-root, fits-node}
-use Rattle.drawing.specs.Parts.{NumberedTree, Sized}
+use Rattle.drawing.specs.DrawingLaws.{bothPlaced, placed-root, placed-node, fits-root, fits-node}
+use Rattle.drawing.specs.Parts.{NumberedTree}
 use Rattle.drawing.proofs.Conjunction.{first-fails, first-holds}
 
 ------------------------------------------------------------------------
@@ -82,3 +82,68 @@ pub fits-never : (limit : ℕ) (P R : List ℕ) (rule : Rule) (s : Drawing) {v t
     → false ≡ nodeFits limit P R rule s v
 fits-never limit P R rule s {v} above e none =
     first-fails _ (lt-leb 1 (getD (s .times) v 0) (omega arith)) ∙ sym (fits-node limit P R rule s v above)
+
+-- the root: no place is more than the limit at 0
+module _ (limit : ℕ) (P R : List ℕ) (rule : Rule) (s : Drawing) where
+  zero-within : (a : ℕ) → eqb a 0 && leb a limit ≡ eqb a 0
+  zero-within a =
+      by-test (eqb a 0)
+      (λ e. ap (λ b. b && leb a limit) e ∙ le-leb a limit (omega (arith, eqb-true a 0 e)) ∙ sym e)
+      (λ e. ap (λ b. b && leb a limit) e ∙ sym e)
+
+  pub root-test : nodeFits limit P R rule s 0
+      ≡ eqb (getD (s .times) 0 0) 1 && (eqb (getD (s .x) 0 0) 0 && eqb (getD (s .y) 0 0) 0)
+  unfolding bothPlaced
+  root-test =
+      fits-root limit P R rule s
+      ∙ ap₂ (λ a b. eqb (getD (s .times) 0 0) 1 && (a && b))
+      (placed-root limit P R rule (s .times) acrossOf (s .x) ∙ zero-within (getD (s .x) 0 0))
+      (placed-root limit P R rule (s .times) upOf (s .y) ∙ zero-within (getD (s .y) 0 0))
+
+------------------------------------------------------------------------
+-- The least node that does not fit
+
+-- every node below v fits
+pub record Fitting (limit : ℕ) (P R : List ℕ) (rule : Rule) (s : Drawing) (v : ℕ) : Type 0 where
+  pub some : 1 ≤ v
+  pub inside : v ≤ length P
+  pub before : (z : ℕ) → z < v → nodeFits limit P R rule s z ≡ true
+
+module _ (limit : ℕ) (P R : List ℕ) (rule : Rule) (s : Drawing) where
+  abbrev misfit : ℕ → Bool
+  misfit z = not (nodeFits limit P R rule s z)
+
+  pub fitting-root : {r : Bool} → 0 < length P
+      → r ≡ (eqb (getD (s .times) 0 0) 1 && (eqb (getD (s .x) 0 0) 0 && eqb (getD (s .y) 0 0) 0)) → r ≡ false
+      → 0 ≡ least misfit (length P)
+  fitting-root some e f =
+      least-is misfit (length P) 0 (omega arith) (λ k l. absurd (omega arith))
+      (λ l. ap not (root-test limit P R rule s ∙ sym e ∙ f))
+
+  pub fitting-start : {r : Bool} → 0 < length P
+      → r ≡ (eqb (getD (s .times) 0 0) 1 && (eqb (getD (s .x) 0 0) 0 && eqb (getD (s .y) 0 0) 0)) → r ≡ true
+      → Fitting limit P R rule s 1
+  fitting-start some e f = record {
+    some = omega arith;
+    inside = some;
+    before = λ z l. subst⁻¹ (λ k. nodeFits limit P R rule s k ≡ true) (omega arith) (root-test limit P R rule s ∙ sym e ∙ f);
+  }
+
+module _ {limit : ℕ} {P R : List ℕ} {rule : Rule} {s : Drawing} {v : ℕ} (x : Fitting limit P R rule s v) where
+  pub fitting-step : {r : Bool} → v < length P → r ≡ nodeFits limit P R rule s v → r ≡ true → Fitting limit P R rule s (v + 1)
+  fitting-step l e t = record {
+    some = omega arith;
+    inside = omega arith;
+    before = λ z h. by-eq z v (λ q. subst⁻¹ (λ k. nodeFits limit P R rule s k ≡ true) q (sym e ∙ t))
+        (λ ne. x .before z (omega arith));
+  }
+
+  pub fitting-not : {r : Bool} → v < length P → r ≡ nodeFits limit P R rule s v → r ≡ false
+      → v ≡ least (misfit limit P R rule s) (length P)
+  fitting-not l e f =
+      least-is (misfit limit P R rule s) (length P) v (omega arith) (λ k h. ap not (x .before k h)) (λ h. ap not (sym e ∙ f))
+
+  pub fitting-end : length P ≤ v → length P ≡ least (misfit limit P R rule s) (length P)
+  fitting-end h =
+      least-is (misfit limit P R rule s) (length P) (length P) (omega arith) (λ k l. ap not (x .before k (omega arith)))
+      (λ l. absurd (omega arith))

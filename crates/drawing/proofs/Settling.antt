@@ -19,7 +19,7 @@ use Rattle.slopes.specs.declared.Rule.{Rule}
 use Rattle.drawing.specs.declared.Framed.{Framed}
 use Rattle.drawing.specs.declared.Framed.the-variants as framed
 use Rattle.drawing.specs.CallLaws.{settle-none, settle-some}
-use Rattle.drawing.specs.Drawing.{Drawing, Outcome, lists, fresh, frame, Spared, Laid, layout}
+use Rattle.drawing.specs.Drawing.{Drawing, Outcome, lists, fresh, frame, layout, Spared, Laid, Lengthened, Shortened}
 use Rattle.drawing.specs.DrawingLaws.{three-long}
 use Rattle.drawing.specs.FreshLaws.{Roomy}
 use Rattle.drawing.specs.Parts.{Prepared, Sized, Blank}
@@ -107,3 +107,11 @@ module _ {L : Limits} {P R : List ℕ} {s : Drawing} {W X : List ℕ} {r : Valid
 pub laid-at : {L M : Limits} {P R : List ℕ} {rule : Rule} {s : Drawing} {W : List ℕ} {t : Drawing} {X : List ℕ} {r : Framed}
     → L ≡ M → Laid L P R rule s W t X r → Laid M P R rule s W t X r
 laid-at {P = P} {R} {rule} {s} {W} {t} {X} {r} e = subst (λ M. Laid M P R rule s W t X r) e
+
+module _ {L M : Limits} {P R : List ℕ} {rule : Rule} {s : Drawing} {W : List ℕ} {v c : ℕ} {t : Drawing} {X : List ℕ} {r : Framed}
+    (e : L ≡ M) where
+  pub lengthened-at : Lengthened L P R rule s W v c t X r → Lengthened M P R rule s W v c t X r
+  lengthened-at = subst (λ M. Lengthened M P R rule s W v c t X r) e
+
+  pub shortened-at : Shortened L P R rule s W v c t X r → Shortened M P R rule s W v c t X r
+  shortened-at = subst (λ M. Shortened M P R rule s W v c t X r) e

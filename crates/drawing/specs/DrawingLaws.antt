@@ -3,21 +3,26 @@
 --   Coordinate limit .. part X    == X has the places of a drawing, in the coordinate that adds up `part`, within the limit
 --   Drawn limit P R rule s        == s is a drawing of the table under the rule (document 01: a sheet)
 --   fits-drawn, drawn-fits        == it is one exactly when every node fits
+--   drawn-times                   == times are within the limit too
 --   largest-above, largest-found  == the largest of a list is above all, and one of them or 0
 use mathlib.Core.Bool.{Bool, true, cond, _&&_}
 use mathlib.Core.List.{List, [], _∷_}
 use mathlib.Core.Logic.{_⊎_, inl, inr, ⊎-elim}
 use mathlib.Core.Path.{_≡_, refl, sym, ap, subst, subst⁻¹, _∙_}
 use Prim.Native.Nat.{ℕ, zero, suc, _+_, _*_, _≤_, _<_, max}
+use native.Mathlib.Nat.{mul-le-mul-left}
 use native.Mathlib.Omega.{arith}
 use lib.Dec.{leb, eqb}
 use lib.ListN.{length, getD}
 use borrow.Author.Tests.{eqb-true, eq-eqb, ne-eqb, leb-true, le-leb}
 use Rattle.laws.specs.Tests.{by-eq, by-lt, both, both-is}
-use Rattle.table.specs.Table.{parent, allLong}
+use Rattle.table.specs.Numbering.{numbering}
+use Rattle.table.specs.Table.{parent, postNumber, allLong}
+use Rattle.table.specs.TableLaws.{Tree}
 use Rattle.slopes.specs.declared.Rule.{Rule}
 use Rattle.slopes.specs.declared.Slope.{Slope}
-use Rattle.slopes.specs.Slopes.{acrossOf, upOf}
+use Rattle.slopes.specs.SlopeLaws.{slope-positive}
+use Rattle.slopes.specs.Slopes.{acrossOf, upOf, slopeAt}
 use Rattle.drawing.specs.Drawing.{Drawing, lists, edge, largest, placed, nodeFits}
 use Rattle.drawing.specs.PathLaws.{Adds}
 
@@ -159,6 +164,17 @@ module _ (limit : ℕ) (P R : List ℕ) (rule : Rule) where
         there v l =
             both _ _
             (by-eq v 0 (λ e. subst⁻¹ (λ z. bothPlaced z ≡ true) e (root .1)) (λ ne. node v (omega arith) l .1))
+
+-- slopes go across, so times are within the limit too
+pub drawn-times : {limit : ℕ} {P R : List ℕ} {rule : Rule} {s : Drawing} → Tree P R → Drawn limit P R rule s
+    → (v : ℕ) → 0 < v → v < length P → getD (s .times) v 0 ≤ limit
+unfolding edge
+drawn-times {P = P} {R} {rule} {s} tree d v a l =
+    let n = numbering tree in
+    let across : 1 ≤ slopeAt rule (length P) (postNumber P R v) .across =
+    slope-positive rule (length P) (postNumber P R v) (n .from-1 v l)
+    (omega (arith, n .parent-later v a l, n .to-n (parent P v) (tree .inside v l))) .0 in
+    omega (arith, mul-le-mul-left (getD (s .times) v 0) across, d .x .adds .at v a l, d .x .within v l)
 
 ------------------------------------------------------------------------
 -- The frame

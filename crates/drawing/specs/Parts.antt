@@ -6,20 +6,26 @@
 --   Sized P R s W          == the lists of s are as long as the table, which is numbered
 --   Blank P R rule s W     == and a fresh drawing has places below 2^32
 --   Checked L .. r         == the answer r is refusals 1 to 10 of a call on the drawing s
+--   Passes limit P X v d r == r says whether a place of v's subtree is beyond the limit when it is moved on by d
+--   Movable P X v d longer == v's subtree can be moved on, or back, by d
+--   Stretchable ..         == v's edge can be made longer, or shorter
+--   Stretched .. t r       == the drawing t with that edge, and its frame r
 use mathlib.Core.Bool.{Bool, true, false}
 use mathlib.Core.List.{List}
 use mathlib.Core.Path.{_≡_}
-use Prim.Native.Nat.{ℕ, _+_, _-_, _^_, _≤_, _<_}
-use lib.ListN.{length}
+use Prim.Native.Nat.{ℕ, _+_, _-_, _*_, _^_, _≤_, _<_}
+use lib.ListN.{length, getD}
 use Rattle.table.specs.declared.Limits.{Limits}
 use Rattle.table.specs.declared.Validity.{Validity}
 use Rattle.table.specs.declared.Validity.the-variants.{Accepted}
 use Rattle.table.specs.Numbering.{Numbered}
-use Rattle.table.specs.Table.{allLong, tableFault, validity}
+use Rattle.table.specs.Table.{under, allLong, tableFault, validity}
 use Rattle.table.specs.TableLaws.{Tree}
 use Rattle.slopes.specs.declared.Rule.{Rule}
 use Rattle.slopes.specs.SlopeLaws.{acrossBound, upBound}
-use Rattle.drawing.specs.Drawing.{Drawing, lists, drawingFault, Spared}
+use Rattle.slopes.specs.Slopes.{acrossOf, upOf}
+use Rattle.drawing.specs.declared.Framed.{Framed}
+use Rattle.drawing.specs.Drawing.{Drawing, lists, edge, frame, stretched, drawingFault, Spared}
 
 abbrev pub by : Bool → ℕ → ℕ → ℕ
 by true a d = a + d
@@ -50,3 +56,26 @@ pub record Checked (L : Limits) (P R : List ℕ) (rule : Rule) (s : Drawing) (W 
   pub answer : r ≡ validity (drawingFault L P R rule s (length W) v)
   pub spared : Spared L P R s W X
   pub sized : r ≡ Accepted → Sized P R s X
+
+pub record Passes (limit : ℕ) (P X : List ℕ) (v d : ℕ) (r : Bool) : Type 0 where
+  pub yes : r ≡ true → (z : ℕ) × (z < length P) × (under P v z ≡ true) × (limit < getD X z 0 + d)
+  pub no : r ≡ false → (z : ℕ) → z < length P → under P v z ≡ true → getD X z 0 + d ≤ limit
+
+pub record Movable (P X : List ℕ) (v d : ℕ) (longer : Bool) : Type 0 where
+  pub long : length X ≡ length P
+  pub on : longer ≡ true → (z : ℕ) → z < length P → under P v z ≡ true → getD X z 0 + d < 2 ^ 32
+  pub back : longer ≡ false → (z : ℕ) → z < length P → under P v z ≡ true → d ≤ getD X z 0
+
+pub record Stretchable (P R : List ℕ) (rule : Rule) (s : Drawing) (W : List ℕ) (v c : ℕ) (longer : Bool) : Type 0 where
+  pub numbered : NumberedTree P R W
+  pub above : 0 < v
+  pub inside : v < length P
+  pub long : length (s .times) ≡ length P
+  pub more : longer ≡ true → getD (s .times) v 0 + c < 2 ^ 32
+  pub less : longer ≡ false → c ≤ getD (s .times) v 0
+  pub x : Movable P (s .x) v (c * acrossOf (edge P R rule v)) longer
+  pub y : Movable P (s .y) v (c * upOf (edge P R rule v)) longer
+
+pub record Stretched (P R : List ℕ) (rule : Rule) (s : Drawing) (v c : ℕ) (longer : Bool) (t : Drawing) (r : Framed) : Type 0 where
+  pub drawing : t ≡ stretched (by longer) P R rule s v c
+  pub answer : r ≡ frame t

@@ -213,7 +213,7 @@ module _ {P R : List ℕ} {rule : Rule} {v c : ℕ} where
 
 module _ {P R : List ℕ} (tree : Tree P R) {rule : Rule} {limit v c : ℕ} (av : 0 < v) (lv : v < length P) where
   -- what is taken away is there in the whole subtree
-  back-room : {times : List ℕ} {part : Slope → ℕ} {X : List ℕ} → Coordinate limit P R rule times part X
+  pub back-room : {times : List ℕ} {part : Slope → ℕ} {X : List ℕ} → Coordinate limit P R rule times part X
       → c ≤ getD times v 0 → (z : ℕ) → z < length P → under P v z ≡ true → c * part (edge P R rule v) ≤ getD X z 0
   back-room {times} {part} {X} k less z lz t =
       let low : c * part (edge P R rule v) ≤ getD times v 0 * part (edge P R rule v) = mul-le-mul-right (part (edge P R rule v)) less in
