@@ -148,4 +148,5 @@ def main():
         case(4, 0, rule, 65537)
 
 
-main()
+if __name__ == "__main__":
+    main()
