@@ -1,11 +1,11 @@
 // From a tree file's bytes to the text that the program `sheet` prints.
-use table::Limits;
-use treefile::read_tree_within;
-use treefile::Loaded;
 use drawing::layout;
 use slopes::Rule;
+use table::Limits;
 use text::put_refusal;
 use text::put_sheet;
+use treefile::Loaded;
+use treefile::read_tree_within;
 ghost use mathlib.Core.Path.{_≡_};
 ghost use lib.ListN.{length};
 ghost use Rattle.text.specs.Text.{Appended};
@@ -31,11 +31,7 @@ fn lots_in(bytes: &[u8]) -> usize
         return 0;
     }
     let n = (bytes.len() - 4) / 8;
-    if n < 4096 {
-        n
-    } else {
-        4096
-    }
+    if n < 4096 { n } else { 4096 }
 }
 
 // The text for the file, with lists that fit it.
@@ -63,4 +59,36 @@ fn fitted_text(
             put_sheet(out, x, y, u, w)
         }
     }
+}
+
+// Puts the text for the file at the start of `out` and returns its length. The other lists are room to work in; what they
+// hold does not matter.
+pub fn sheet_text(
+    bytes: &[u8],
+    parent: &mut [u32],
+    rank: &mut [u32],
+    times: &mut [u32],
+    x: &mut [u32],
+    y: &mut [u32],
+    u: &mut [u32],
+    w: &mut [u32],
+    work: &mut [u32],
+    out: &mut [u8],
+) -> usize
+    requires { ⌜ Ample (now bytes) (now parent) (now rank) (now times) (now x) (now y) (now u) (now w) (now work) (now out) ⌝ }
+    ensures { λ r. ⌜ Appended (now (out .entry)) (now (out .exit)) 0 r (sheetText (now (bytes .entry))) ⌝ }
+{
+    let n = lots_in(bytes);
+    fitted_text(
+        bytes,
+        &mut parent[..n],
+        &mut rank[..n],
+        &mut times[..n],
+        &mut x[..n],
+        &mut y[..n],
+        &mut u[..n],
+        &mut w[..n],
+        &mut work[..4 * n],
+        out,
+    )
 }
