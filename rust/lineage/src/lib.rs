@@ -107,7 +107,9 @@ impl Refused {
             5 => "the lot's parent is not a lot of the table",
             6 => "the lot's rank is not below its parent's number of children, or a sibling has it too",
             7 => "the lot's parents never lead to lot 0",
-            8 => "the lists are not a sheet: the lot's times or place breaks the rule against its parent, or the limit",
+            8 => {
+                "the lists are not a sheet: the lot's times or place breaks the rule against its parent, or the limit"
+            }
             9 => "there is no such lot",
             10 => "the root has no edge",
             11 => "some place would be beyond 2,147,483,647",
@@ -299,8 +301,7 @@ pub fn check(tree: &Tree, x: &[u32], y: &[u32]) -> Result<Verdict, Refused> {
 /// A direction along which every edge of the tree path from one lot to another rises, on every sheet under the rule.
 pub fn direction(tree: &Tree, rule: Rule, from: u32, to: u32) -> Result<Direction, Refused> {
     let (mut work, mut reply) = (vec![0; 4 * tree.lots()], [0; 3]);
-    let called =
-        raw::direction(rule.balanced(), &tree.parent, &tree.rank, &mut work, from, to, &mut reply);
+    let called = raw::direction(rule.balanced(), &tree.parent, &tree.rank, &mut work, from, to, &mut reply);
     let (_, d, e) = opened(Call::Direction, called, reply)?;
     Ok(Direction { d: d as i32, e: e as i32 })
 }
@@ -325,11 +326,9 @@ impl Sheet {
         let frame = Frame { width: 0, height: 0 };
         let mut sheet = Sheet { tree, rule, times, x, y, work, frame };
         let mut reply = [0; 3];
-        let lists =
-            raw::Lists { times: &mut sheet.times, x: &mut sheet.x, y: &mut sheet.y };
+        let lists = raw::Lists { times: &mut sheet.times, x: &mut sheet.x, y: &mut sheet.y };
         let (parent, rank) = (&sheet.tree.parent, &sheet.tree.rank);
-        let called =
-            raw::layout(rule.balanced(), parent, rank, lists, &mut sheet.work, &mut reply);
+        let called = raw::layout(rule.balanced(), parent, rank, lists, &mut sheet.work, &mut reply);
         sheet.framed(Call::Layout, called, reply)?;
         Ok(sheet)
     }
@@ -340,9 +339,7 @@ impl Sheet {
         let lists = raw::Lists { times: &mut self.times, x: &mut self.x, y: &mut self.y };
         let (parent, rank) = (&self.tree.parent, &self.tree.rank);
         let balanced = self.rule.balanced();
-        let called = raw::lengthen(
-            balanced, parent, rank, lists, &mut self.work, lot, count, &mut reply,
-        );
+        let called = raw::lengthen(balanced, parent, rank, lists, &mut self.work, lot, count, &mut reply);
         self.framed(Call::Lengthen, called, reply)
     }
 
@@ -352,9 +349,7 @@ impl Sheet {
         let lists = raw::Lists { times: &mut self.times, x: &mut self.x, y: &mut self.y };
         let (parent, rank) = (&self.tree.parent, &self.tree.rank);
         let balanced = self.rule.balanced();
-        let called = raw::shorten(
-            balanced, parent, rank, lists, &mut self.work, lot, count, &mut reply,
-        );
+        let called = raw::shorten(balanced, parent, rank, lists, &mut self.work, lot, count, &mut reply);
         self.framed(Call::Shorten, called, reply)
     }
 

@@ -139,14 +139,7 @@ macro_rules! lend_mut {
 }
 
 /// {1, width, height}.
-pub fn layout(
-    balanced: bool,
-    parent: &[u32],
-    rank: &[u32],
-    s: Lists,
-    work: &mut [u32],
-    reply: &mut [i64],
-) -> bool {
+pub fn layout(balanced: bool, parent: &[u32], rank: &[u32], s: Lists, work: &mut [u32], reply: &mut [i64]) -> bool {
     let ((p, pn), (r, rn)) = (lend!(parent), lend!(rank));
     let ((t, tn), (x, xn), (y, yn)) = (lend_mut!(s.times), lend_mut!(s.x), lend_mut!(s.y));
     let ((w, wn), (q, qn)) = (lend_mut!(work), lend_mut!(reply));
@@ -170,9 +163,7 @@ pub fn lengthen(
     let ((t, tn), (x, xn), (y, yn)) = (lend_mut!(s.times), lend_mut!(s.x), lend_mut!(s.y));
     let ((w, wn), (q, qn)) = (lend_mut!(work), lend_mut!(reply));
     // SAFETY: as in `layout`.
-    unsafe {
-        c::lineage_lengthen(balanced, p, pn, r, rn, t, tn, x, xn, y, yn, w, wn, lot, count, q, qn)
-    }
+    unsafe { c::lineage_lengthen(balanced, p, pn, r, rn, t, tn, x, xn, y, yn, w, wn, lot, count, q, qn) }
 }
 
 /// {1, width, height}.
@@ -191,9 +182,7 @@ pub fn shorten(
     let ((t, tn), (x, xn), (y, yn)) = (lend_mut!(s.times), lend_mut!(s.x), lend_mut!(s.y));
     let ((w, wn), (q, qn)) = (lend_mut!(work), lend_mut!(reply));
     // SAFETY: as in `layout`.
-    unsafe {
-        c::lineage_shorten(balanced, p, pn, r, rn, t, tn, x, xn, y, yn, w, wn, lot, count, q, qn)
-    }
+    unsafe { c::lineage_shorten(balanced, p, pn, r, rn, t, tn, x, xn, y, yn, w, wn, lot, count, q, qn) }
 }
 
 /// {1, d, e}.
@@ -213,14 +202,7 @@ pub fn direction(
 }
 
 /// {1, 0, 0} where the drawing is monotone, {2, u, v} where the path from u to v turns.
-pub fn check(
-    parent: &[u32],
-    rank: &[u32],
-    x: &[u32],
-    y: &[u32],
-    work: &mut [u32],
-    reply: &mut [i64],
-) -> bool {
+pub fn check(parent: &[u32], rank: &[u32], x: &[u32], y: &[u32], work: &mut [u32], reply: &mut [i64]) -> bool {
     let ((p, pn), (r, rn), (x, xn), (y, yn)) = (lend!(parent), lend!(rank), lend!(x), lend!(y));
     let ((w, wn), (q, qn)) = (lend_mut!(work), lend_mut!(reply));
     // SAFETY: as in `layout`.
@@ -228,13 +210,7 @@ pub fn check(
 }
 
 /// {1, n, 0}.
-pub fn read_tree(
-    bytes: &[u8],
-    parent: &mut [u32],
-    rank: &mut [u32],
-    work: &mut [u32],
-    reply: &mut [i64],
-) -> bool {
+pub fn read_tree(bytes: &[u8], parent: &mut [u32], rank: &mut [u32], work: &mut [u32], reply: &mut [i64]) -> bool {
     let ((b, bn), (p, pn), (r, rn)) = (lend!(bytes), lend_mut!(parent), lend_mut!(rank));
     let ((w, wn), (q, qn)) = (lend_mut!(work), lend_mut!(reply));
     // SAFETY: as in `layout`.
@@ -242,13 +218,7 @@ pub fn read_tree(
 }
 
 /// {1, bytes, 0}.
-pub fn write_tree(
-    parent: &[u32],
-    rank: &[u32],
-    bytes: &mut [u8],
-    work: &mut [u32],
-    reply: &mut [i64],
-) -> bool {
+pub fn write_tree(parent: &[u32], rank: &[u32], bytes: &mut [u8], work: &mut [u32], reply: &mut [i64]) -> bool {
     let ((p, pn), (r, rn), (b, bn)) = (lend!(parent), lend!(rank), lend_mut!(bytes));
     let ((w, wn), (q, qn)) = (lend_mut!(work), lend_mut!(reply));
     // SAFETY: as in `layout`.

@@ -64,9 +64,7 @@ pub fn accept_lists(parent: &[u32], rank: &[u32]) -> Result<Tree, Refusal> {
         children[parent[v] as usize].push(v);
         *holders.entry((parent[v], rank[v])).or_default() += 1;
     }
-    let bad = |v: usize| {
-        rank[v] as usize >= children[parent[v] as usize].len() || holders[&(parent[v], rank[v])] > 1
-    };
+    let bad = |v: usize| rank[v] as usize >= children[parent[v] as usize].len() || holders[&(parent[v], rank[v])] > 1;
     if let Some(v) = (1..n).find(|&v| bad(v)) {
         return Err((6, v as u32));
     }
@@ -211,14 +209,7 @@ fn frame(s: &Sheet) -> Reply {
 
 /// The places that these times give.
 pub fn places(tree: &Tree, slopes: &[Slope], times: &[u32]) -> Vec<(i128, i128)> {
-    fn hang(
-        tree: &Tree,
-        slopes: &[Slope],
-        times: &[u32],
-        v: usize,
-        at: (i128, i128),
-        all: &mut [(i128, i128)],
-    ) {
+    fn hang(tree: &Tree, slopes: &[Slope], times: &[u32], v: usize, at: (i128, i128), all: &mut [(i128, i128)]) {
         all[v] = at;
         for &c in &tree.children[v] {
             let long = times[c] as i128;
@@ -333,14 +324,7 @@ pub fn shorten(
     frame(s)
 }
 
-pub fn direction(
-    balanced: bool,
-    parent: &[u32],
-    rank: &[u32],
-    work: usize,
-    from: u32,
-    to: u32,
-) -> Reply {
+pub fn direction(balanced: bool, parent: &[u32], rank: &[u32], work: usize, from: u32, to: u32) -> Reply {
     let tree = match accept(parent, rank, &[], work, 65_536, 2) {
         Ok(tree) => tree,
         Err(r) => return refused(r),
@@ -421,8 +405,7 @@ pub fn read_tree(bytes: &[u8], parent: &mut Vec<u32>, rank: &mut Vec<u32>, work:
     if bytes.len() < 4 {
         return refused((16, 0));
     }
-    let numbers: Vec<u32> =
-        bytes.chunks_exact(4).map(|b| u32::from_le_bytes(b.try_into().unwrap())).collect();
+    let numbers: Vec<u32> = bytes.chunks_exact(4).map(|b| u32::from_le_bytes(b.try_into().unwrap())).collect();
     let n = numbers[0] as usize;
     if n == 0 {
         return refused((1, 0));

@@ -75,8 +75,7 @@ fn every_list(random: &mut Random, tree: &Tree, calls: usize) {
             let lot = random.below(n + 1) as u32;
             let count = [0, 1, 2, 7, 1000, 30_000_000][random.below(6)];
             let longer = random.below(3) < 2;
-            let called =
-                if longer { sheet.lengthen(lot, count) } else { sheet.shorten(lot, count) };
+            let called = if longer { sheet.lengthen(lot, count) } else { sheet.shorten(lot, count) };
             if called.is_ok() {
                 added[lot as usize] += if longer { count as i128 } else { -(count as i128) };
             }

@@ -101,8 +101,7 @@ fn layout() {
         let (mut theirs, before) = (mine.clone(), work(&mut random, n));
         let (mut after, replied) = (before.clone(), reply_list(&mut random));
         let mut reply = replied.clone();
-        let called =
-            raw::layout(balanced, &parent, &rank, lists(&mut theirs), &mut after, &mut reply);
+        let called = raw::layout(balanced, &parent, &rank, lists(&mut theirs), &mut after, &mut reply);
         let right = if replied.len() == 3 {
             reference::layout(balanced, &parent, &rank, &mut mine, before.len())
         } else {
@@ -138,13 +137,8 @@ fn stretch(
         (reference::shorten as fn(_, &_, &_, &mut _, _, _, _) -> _, raw::shorten)
     };
     let said = format!("longer {longer}, balanced {balanced}, {parent:?}, {rank:?}, {s:?}, {lot}, {count}");
-    let called =
-        call(balanced, parent, rank, lists(&mut theirs), &mut after[..], lot, count, &mut reply[..]);
-    let right = if replied.len() == 3 {
-        mine(balanced, parent, rank, s, before.len(), lot, count)
-    } else {
-        [0; 3]
-    };
+    let called = call(balanced, parent, rank, lists(&mut theirs), &mut after[..], lot, count, &mut reply[..]);
+    let right = if replied.len() == 3 { mine(balanced, parent, rank, s, before.len(), lot, count) } else { [0; 3] };
     same(&said, called, &replied, &reply, right, &before, &after, &spares_work);
     assert_eq!(*s, theirs, "{said}");
     right
@@ -226,9 +220,8 @@ fn lists_of_calls() {
         }
         for v in 0..n {
             let way = tree.way_up(v);
-            let sum = |part: fn(&(i128, i128)) -> i128| {
-                way.iter().map(|&z| part(&slopes[z]) * added[z]).sum::<i128>()
-            };
+            let sum =
+                |part: fn(&(i128, i128)) -> i128| way.iter().map(|&z| part(&slopes[z]) * added[z]).sum::<i128>();
             assert_eq!((s.x[v] as i128, s.y[v] as i128), (sum(|s| s.0), sum(|s| s.1)));
         }
     }
@@ -247,8 +240,7 @@ fn direction() {
         let (from, to) = (lot_of(&mut random, n), lot_of(&mut random, n));
         let (before, replied) = (work(&mut random, n), reply_list(&mut random));
         let (mut after, mut reply) = (before.clone(), replied.clone());
-        let called =
-            raw::direction(balanced, &parent, &rank, &mut after, from, to, &mut reply);
+        let called = raw::direction(balanced, &parent, &rank, &mut after, from, to, &mut reply);
         let right = reference::direction(balanced, &parent, &rank, before.len(), from, to);
         let said = format!("call {i}: direction({balanced}, {parent:?}, {rank:?}, {from}, {to})");
         same(&said, called, &replied, &reply, right, &before, &after, &spares_work);
@@ -344,11 +336,8 @@ fn write_tree() {
         let (before, replied) = (work(&mut random, n), reply_list(&mut random));
         let (mut after, mut reply) = (before.clone(), replied.clone());
         let called = raw::write_tree(&parent, &rank, &mut theirs, &mut after, &mut reply);
-        let right = if replied.len() == 3 {
-            reference::write_tree(&parent, &rank, &mut mine, before.len())
-        } else {
-            [0; 3]
-        };
+        let right =
+            if replied.len() == 3 { reference::write_tree(&parent, &rank, &mut mine, before.len()) } else { [0; 3] };
         let said = format!("call {i}: write_tree({parent:?}, {rank:?})");
         same(&said, called, &replied, &reply, right, &before, &after, &|k| k <= 3);
         assert_eq!(mine, theirs, "{said}");

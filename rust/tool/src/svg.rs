@@ -25,7 +25,13 @@ pub fn page(sheet: &Sheet, path: Option<(u32, u32, Direction)>, to_scale: bool) 
     let dot = (30.0 / f64::from(n).sqrt()).clamp(0.8, 5.0);
     let mut svg = String::new();
     let w = &mut svg;
-    line(w, &format!("<svg xmlns=\"http://www.w3.org/2000/svg\" viewBox=\"0 0 {} {}\" font-family=\"sans-serif\">", PAGE.0, PAGE.1));
+    line(
+        w,
+        &format!(
+            "<svg xmlns=\"http://www.w3.org/2000/svg\" viewBox=\"0 0 {} {}\" font-family=\"sans-serif\">",
+            PAGE.0, PAGE.1
+        ),
+    );
     line(w, "<rect width=\"100%\" height=\"100%\" fill=\"white\"/>");
     let (width, height) = (f64::from(frame.width) * scale.0, f64::from(frame.height) * scale.1);
     line(w, &format!(
@@ -38,10 +44,13 @@ pub fn page(sheet: &Sheet, path: Option<(u32, u32, Direction)>, to_scale: bool) 
     } else {
         format!(", y drawn at {} times the scale of x", short(stretched))
     };
-    line(w, &format!(
+    line(
+        w,
+        &format!(
         "<text x=\"{MARGIN}\" y=\"24\" font-size=\"13\" fill=\"#555\">{n} lots, {}: {} wide, {} high{note}</text>",
         sheet.rule(), frame.width, frame.height
-    ));
+    ),
+    );
     line(w, &format!("<g stroke=\"#345\" stroke-width=\"{:.1}\">", (dot / 3.0).max(0.5)));
     for v in 1..n {
         let (a, b) = (at(sheet.tree().parents()[v as usize]), at(v));
@@ -82,7 +91,13 @@ fn highlight(
 ) {
     let points: Vec<String> =
         sheet.tree().path(u, v).iter().map(|&z| format!("{:.1},{:.1}", at(z).0, at(z).1)).collect();
-    line(w, &format!("<polyline points=\"{}\" fill=\"none\" stroke=\"#c22\" stroke-width=\"3\" stroke-opacity=\"0.8\"/>", points.join(" ")));
+    line(
+        w,
+        &format!(
+            "<polyline points=\"{}\" fill=\"none\" stroke=\"#c22\" stroke-width=\"3\" stroke-opacity=\"0.8\"/>",
+            points.join(" ")
+        ),
+    );
     line(w, &format!(
         "<text x=\"{MARGIN}\" y=\"42\" font-size=\"13\" fill=\"#c22\">the path from {u} to {v} rises along {along}</text>"
     ));
@@ -112,9 +127,8 @@ fn numbers(w: &mut String, n: u32, at: &dyn Fn(u32) -> (f64, f64), dot: f64) {
         let (x, y) = (x + dot + 1.0, y + 0.8 * size + 1.0);
         let long = v.to_string().len() as f64 * size * 0.62;
         let cells = |from: f64, length: f64, cell: f64| (from / cell) as i64..=((from + length) / cell) as i64;
-        let box_of: Vec<(i64, i64)> = cells(x, long, 4.0)
-            .flat_map(|i| cells(y - size, size, 4.0).map(move |j| (i, j)))
-            .collect();
+        let box_of: Vec<(i64, i64)> =
+            cells(x, long, 4.0).flat_map(|i| cells(y - size, size, 4.0).map(move |j| (i, j))).collect();
         if box_of.iter().any(|c| taken.contains(c)) {
             continue;
         }
