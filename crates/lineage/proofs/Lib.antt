@@ -1,2 +1,3 @@
 pub mod Threes
 pub mod Exporting
+pub mod Replaying

@@ -1,5 +1,7 @@
 // The C interface. Each call writes its answer into a reply of three numbers and returns true; where the reply is not
 // three long it writes nothing at all and returns false. include/lineage.h says what the numbers mean.
+pub mod replay;
+
 use direction::Heading;
 use drawing::Framed;
 use monotone::Verdict;

@@ -49,9 +49,12 @@ placed-requires c κs =
     let slope = at-slope-at .slope-at .result in
     let inside = at-entry .pre .0 .numbered .tree .inside (at-entry .args .v) (at-entry .pre .2) in
     let fits = product-fits (at-get .get .result) (slope .across) (at-get .get .ensures .1)
-    (omega (arith, c .struct-known .given)) in
-    (omega (arith, at-get2 .get2 .ensures .0, at-entry .pre .0 .x), omega
-    (arith, at-entry .pre .2, at-entry .pre .0 .x), fits)
+    (omega (arith, c .struct-known .given)) in (
+      omega (arith, at-get2 .get2 .ensures .0, at-entry .pre .0 .x),
+      omega
+          (arith, at-entry .pre .2, at-entry .pre .0 .x),
+      fits,
+    )
 
 returns-2 : tie.Need-returns-2
 returns-2 c =
@@ -88,9 +91,12 @@ placed-requires-2 c κs =
     let slope = at-slope-at .slope-at .result in
     let inside = at-entry .pre .0 .numbered .tree .inside (at-entry .args .v) (at-entry .pre .2) in
     let fits = product-fits (at-get .get .result) (slope .up) (at-get .get .ensures .1)
-    (omega (arith, c .struct-known2 .given)) in
-    (omega (arith, at-get2 .get2 .ensures .0, at-entry .pre .0 .y), omega
-    (arith, at-entry .pre .2, at-entry .pre .0 .y), fits)
+    (omega (arith, c .struct-known2 .given)) in (
+      omega (arith, at-get2 .get2 .ensures .0, at-entry .pre .0 .y),
+      omega
+          (arith, at-entry .pre .2, at-entry .pre .0 .y),
+      fits,
+    )
 
 returns-3 : tie.Need-returns-3
 returns-3 c =

@@ -1,0 +1,84 @@
+// A tree laid out, and a lent list of lengthen and shorten calls made one after the other: what the claim says of every
+// list of calls holds of what this function leaves.
+use drawing::Framed;
+use slopes::Rule;
+ghost use mathlib.Core.Path.{_≡_};
+ghost use lib.ListN.{length};
+ghost use Rattle.table.specs.Table.{large};
+ghost use Rattle.drawing.specs.Drawing.{lent};
+ghost use Rattle.lineage.specs.Claim.{make, run};
+ghost use Rattle.lineage.specs.Replay.{callOf, callsTo, Replayed};
+
+// Makes one call: kind 0 lengthens, any other shortens. A refused one changes nothing.
+fn make_call(
+    rule: Rule,
+    parent: &[u32],
+    rank: &[u32],
+    times: &mut [u32],
+    x: &mut [u32],
+    y: &mut [u32],
+    work: &mut [u32],
+    kind: u32,
+    lot: u32,
+    count: u32,
+) -> Framed
+    ensures { λ _. ⌜ lent (now (times .exit)) (now (x .exit)) (now (y .exit)) ≡ make large (now (parent .entry)) (now (rank .entry)) rule (lent (now (times .entry)) (now (x .entry)) (now (y .entry))) (callOf kind lot count (length (now (work .entry)))) .drawing ⌝ }
+{
+    if kind == 0 {
+        return drawing::lengthen(rule, parent, rank, times, x, y, work, lot, count);
+    }
+    drawing::shorten(rule, parent, rank, times, x, y, work, lot, count)
+}
+
+// Makes the calls of the lists in order.
+fn make_calls(
+    rule: Rule,
+    parent: &[u32],
+    rank: &[u32],
+    times: &mut [u32],
+    x: &mut [u32],
+    y: &mut [u32],
+    work: &mut [u32],
+    kinds: &[u32],
+    lots: &[u32],
+    counts: &[u32],
+)
+    requires { ⌜ (length (now lots) ≡ length (now kinds)) × (length (now counts) ≡ length (now kinds)) ⌝ }
+    ensures { λ _. ⌜ lent (now (times .exit)) (now (x .exit)) (now (y .exit)) ≡ run large (now (parent .entry)) (now (rank .entry)) rule (lent (now (times .entry)) (now (x .entry)) (now (y .entry))) (callsTo (now (kinds .entry)) (now (lots .entry)) (now (counts .entry)) (length (now (work .entry))) (length (now (kinds .entry)))) ⌝ }
+{
+    let m = kinds.len();
+    let mut i = 0;
+    while i < m {
+        let kind = kinds[i];
+        let lot = lots[i];
+        let count = counts[i];
+        make_call(rule, parent, rank, times, x, y, work, kind, lot, count);
+        i += 1;
+    }
+}
+
+// Lays the tree out and makes the calls of three lists of one length; the reply is layout's. Where layout refuses, no call
+// is made.
+pub fn replay(
+    rule: Rule,
+    parent: &[u32],
+    rank: &[u32],
+    times: &mut [u32],
+    x: &mut [u32],
+    y: &mut [u32],
+    work: &mut [u32],
+    kinds: &[u32],
+    lots: &[u32],
+    counts: &[u32],
+) -> Framed
+    requires { ⌜ (length (now lots) ≡ length (now kinds)) × (length (now counts) ≡ length (now kinds)) ⌝ }
+    ensures { λ r. ⌜ Replayed large (now (parent .entry)) (now (rank .entry)) rule (lent (now (times .entry)) (now (x .entry)) (now (y .entry))) (length (now (work .entry))) (now (kinds .entry)) (now (lots .entry)) (now (counts .entry)) (lent (now (times .exit)) (now (x .exit)) (now (y .exit))) r ⌝ }
+{
+    match drawing::layout(rule, parent, rank, times, x, y, work) {
+        Framed::Refused(number, lot) => Framed::Refused(number, lot),
+        Framed::Frame(width, height) => {
+            make_calls(rule, parent, rank, times, x, y, work, kinds, lots, counts);
+            Framed::Frame(width, height)
+        }
+    }
+}
