@@ -125,11 +125,7 @@ def whole(sheet):
 
 
 def case(shape, relabelled, rule, n):
-    if n > 65536:
-        show(shape, relabelled, rule, n, 0, 2, 0)
-        return
-    tree = Tree(*grown(shape, n, relabelled))
-    sheet = Sheet(tree, rule)
+    sheet = Sheet(Tree(*grown(shape, n, relabelled)), rule)
     show(shape, relabelled, rule, n, *sheet.frame(), *whole(sheet))
     for longer, v, c in [
         (1, n // 2, 1), (1, n - 1, 1000), (1, 1, 0), (1, 0, 1), (1, n, 1), (1, n // 2, 4294967295), (0, n // 2, 2),
@@ -139,13 +135,12 @@ def case(shape, relabelled, rule, n):
 
 
 def main():
-    for shape in range(5):
+    for shape, n in [(0, 1000), (1, 1000), (2, 1000), (3, 1000), (4, 1000), (4, 65536)]:
         for relabelled in (0, 1):
             for rule in (0, 1):
-                case(shape, relabelled, rule, 1000)
+                case(shape, relabelled, rule, n)
     for rule in (0, 1):
-        case(4, 1, rule, 65536)
-        case(4, 0, rule, 65537)
+        show(65537, 0, 2, "")  # one lot too many: refusal 2
 
 
 if __name__ == "__main__":
