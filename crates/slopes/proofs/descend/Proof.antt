@@ -1,6 +1,5 @@
--- `slopes::descend` meets its contract. The loop's invariant is a walk towards the position: as many turns are left as
--- bits of the position above the zeros that end it. The measure is the number of turns left.
-use Prim.Native.Nat.{_-_}
+-- `slopes::descend` meets its contract. The loop's invariant is a walk towards the position: the turns that are left are
+-- the bits of the position from `bit` down to the one above the lowest 1. The measure is `bit`.
 use native.Mathlib.Omega.{arith}
 use mathlib.Core.Path.{_∙_}
 use lib.Count.{trailingZeros}
@@ -10,34 +9,32 @@ use Rattle.slopes.proofs.descend.Statement.{statement}
 use Rattle.slopes.proofs.descend.Tie as tie
 
 abbrev Inv-loop : tie.InvT-loop
-Inv-loop k j level low₀ high₀ turns₀ low high turns = Walk k (trailingZeros 32 j) j low high turns
+Inv-loop k j lowest low₀ high₀ bit₀ low high bit = Walk k (trailingZeros 32 j) j low high bit
 
 abbrev μ-loop : tie.MeasureT-loop
-μ-loop k j level low₀ high₀ turns₀ low high turns = level - turns
+μ-loop k j lowest low₀ high₀ bit₀ low high bit = bit
 
 ends : (c : tie.Start Inv-loop μ-loop) → Ends (c .args .j) (trailingZeros 32 (c .args .j))
 ends c = trailing-ends 32 (c .args .j) (c .pre .1) (c .fits .j .fits)
 
-sub-level : tie.Need-sub-level Inv-loop μ-loop
-sub-level c = omega (arith, ends-below _ _ _ (ends c) (c .pre .2))
+sub-bit : tie.Need-sub-bit Inv-loop μ-loop
+sub-bit c = omega (arith, ends-below _ _ _ (ends c) (c .pre .2))
 
 loop-holds : tie.Need-loop-holds Inv-loop μ-loop
 loop-holds c = walk-start (c .args .k) _ (c .args .j) (c .pre .2) (ends c)
 
-add-loop : tie.Need-add-loop Inv-loop μ-loop
-add-loop c = omega (arith, c .loop .inv .within)
-
-add-turns : tie.Need-add-turns Inv-loop μ-loop
-add-turns c = omega (arith, c .before .loop .inv .within)
-
 mediant-requires : tie.Need-mediant-requires Inv-loop μ-loop
-mediant-requires c κs = walk-fits (c .before .loop .inv) (c .before .before .pre .0)
+mediant-requires c κs =
+    let turning = c .before in
+    walk-fits (turning .loop .inv) (turning .before .pre .0)
 
-sub-if1 : tie.Need-sub-if1 Inv-loop μ-loop
-sub-if1 c = omega (arith, c .before .before .loop .inv .within)
+shr-turn : tie.Need-shr-turn Inv-loop μ-loop
+shr-turn c =
+    let turning = c .before .before in
+    omega (arith, turning .loop .inv .inside, turning .before .pre .0)
 
-shr-if1 : tie.Need-shr-if1 Inv-loop μ-loop
-shr-if1 c = omega arith
+sub-bit-2 : tie.Need-sub-bit-2 Inv-loop μ-loop
+sub-bit-2 c = omega arith
 
 loop-less : tie.Need-loop-less Inv-loop μ-loop
 loop-less c = omega arith
@@ -71,13 +68,11 @@ descend-spec =
     (tie.spec
     Inv-loop
     μ-loop
-    sub-level
+    sub-bit
     loop-holds
-    add-loop
-    add-turns
     mediant-requires
-    sub-if1
-    shr-if1
+    shr-turn
+    sub-bit-2
     loop-less
     loop-again
     loop-less-2
