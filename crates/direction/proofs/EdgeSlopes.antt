@@ -8,9 +8,8 @@ use Rattle.table.specs.Table.{postNumber}
 use Rattle.table.specs.Numbering.{numbering}
 use Rattle.slopes.specs.declared.Rule.{Rule}
 use Rattle.slopes.specs.declared.Slope.{Slope}
-use Rattle.slopes.specs.Slopes.{slopeAt}
+use Rattle.slopes.specs.Slopes.{slopeAt, edge}
 use Rattle.slopes.specs.SlopeLaws.{slope-size}
-use Rattle.direction.specs.Direction.{edgeSlope}
 use Rattle.direction.specs.RisingPaths.{number-below-n}
 use Rattle.direction.specs.Ordered.{Ordered, Small}
 
@@ -26,7 +25,8 @@ module _ {P R W : List ℕ} (ordered : Ordered P R W) {z : ℕ} (node : 0 < z) (
     omega (arith, ordered .few),
   )
 
-  pub slope-read : (rule : Rule) {s : Slope} → s ≡ slopeAt rule (length P) k → (s ≡ edgeSlope P R rule z) × Small s
+  pub slope-read : (rule : Rule) {s : Slope} → s ≡ slopeAt rule (length P) k → (s ≡ edge P R rule z) × Small s
+  unfolding edge
   slope-read rule {s} e =
       let size = slope-size rule (length P) k (number-asks .0) (number-asks .1) in (
         e ∙ ap (slopeAt rule (length P)) number-is,

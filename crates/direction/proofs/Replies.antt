@@ -20,7 +20,7 @@ use Rattle.table.specs.Work.{Validated, Ready}
 use Rattle.slopes.specs.declared.Rule.{Rule}
 use Rattle.direction.specs.declared.Heading.{Heading}
 use Rattle.direction.specs.declared.Heading.the-variants.{Refused}
-use Rattle.direction.specs.Direction.{course, pairFault, directionFault, reply, direction, Directed}
+use Rattle.direction.specs.Direction.{course, pairFault, reply, direction, Directed}
 use Rattle.direction.specs.Ordered.{Answered}
 
 ------------------------------------------------------------------------
@@ -63,7 +63,7 @@ module _ (P R : List ℕ) (rule : Rule) (u v : ℕ) {L : Limits} (is-large : L �
   validated = subst (λ (l : Limits). Validated l P R true W X r) is-large given
 
   pub table-refused : (k z : ℕ) → r ≡ Invalid k z → Directed large P R rule W X u v (Refused k z)
-  unfolding direction directionFault reply
+  unfolding direction reply
   table-refused k z e = record {
     answer = ap (λ f. reply f (course P R rule u v))
         (sym (orElse-first _ (pairFault (length P) u v)
@@ -89,7 +89,7 @@ module _ (P R : List ℕ) (rule : Rule) (u v : ℕ) {L : Limits} (is-large : L �
 
     -- whatever is left in the work list then
     pub table-accepted : (Y : List ℕ) {a : Heading} → Answered P R rule u v a → Directed large P R rule W Y u v a
-    unfolding direction directionFault tableFault
+    unfolding direction tableFault
     table-accepted Y {a} q = record {
       answer = q .answer ∙ ap (λ f. reply f (course P R rule u v)) (sym (orElse-second _ _ no-fault));
       spared = λ f s. absurd (some-not-none (sym s

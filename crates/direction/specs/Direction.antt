@@ -2,15 +2,13 @@
 --
 -- s gives each node the slope of its edge.
 --
---   edgeSlope P R rule z     == that slope under the rule: the one whose place in the rule is z's post number
 --   leftOf t, rightOf t      == (-b, a) and (b, -a), for t = (a, b): t turned left, and right, by a right angle
 --   sideways R s u v p q     == the direction from u to v where neither is an ancestor of the other; p and q are the
 --                               children of their lowest common ancestor towards u and towards v
 --   heading P R s u v i j    == the direction from u to v; i and j are the steps from u and from v to that ancestor
 --   course P R rule u v      == the direction from u to v under the rule
 --   pairFault n u v          == refusals 9 and 13
---   directionFault L ..      == refusals 1 to 7 at the limits L, then these
---   direction L ..           == the call
+--   direction L ..           == the call: refusals 1 to 7 at the limits L, then these, or the direction
 --   Directed ..              == what the call answers, and that it leaves the work list alone on refusals 1, 2 and 3
 use mathlib.Core.Bool.{true, cond, _||_}
 use mathlib.Core.List.{List}
@@ -22,18 +20,15 @@ use lib.IntN.{pos, negℤ}
 use lib.ListN.{length}
 use Rattle.laws.specs.Search.{Refusal, refuse, _orElse_}
 use Rattle.table.specs.declared.Limits.{Limits}
-use Rattle.table.specs.Table.{rank, climb, rise, postNumber, shapeFault, tableFault}
+use Rattle.table.specs.Table.{rank, climb, rise, tableFault, Spared}
 use Rattle.slopes.specs.declared.Rule.{Rule}
 use Rattle.slopes.specs.declared.Slope.{Slope}
-use Rattle.slopes.specs.Slopes.{_⊕_, slopeAt}
+use Rattle.slopes.specs.Slopes.{_⊕_, edge}
 use Rattle.direction.specs.declared.Heading.{Heading}
 use Rattle.direction.specs.declared.Heading.the-variants.{Along, Refused}
 
 ------------------------------------------------------------------------
 -- From one node to another
-
-abbrev pub edgeSlope : List ℕ → List ℕ → Rule → ℕ → Slope
-edgeSlope P R rule z = slopeAt rule (length P) (postNumber P R z)
 
 abbrev pub leftOf : Slope → Heading
 leftOf t = Along (negℤ (pos (t .up))) (pos (t .across))
@@ -50,7 +45,7 @@ heading P R s u v (suc i) zero = Along (negℤ (pos 1)) (negℤ (pos 1))
 heading P R s u v (suc i) (suc j) = sideways R s u v (climb P i u) (climb P j v)
 
 abbrev pub course : List ℕ → List ℕ → Rule → ℕ → ℕ → Heading
-course P R rule u v = heading P R (edgeSlope P R rule) u v (rise P u v) (rise P v u)
+course P R rule u v = heading P R (edge P R rule) u v (rise P u v) (rise P v u)
 
 ------------------------------------------------------------------------
 -- The call
@@ -58,18 +53,15 @@ course P R rule u v = heading P R (edgeSlope P R rule) u v (rise P u v) (rise P 
 unfoldable pub pairFault : ℕ → ℕ → ℕ → Option Refusal
 pairFault n u v = refuse (leb n u || leb n v) 9 0 orElse refuse (eqb u v) 13 0
 
--- work: the length of the work list, whose contents don't matter
-unfoldable pub directionFault : Limits → List ℕ → List ℕ → ℕ → ℕ → ℕ → Option Refusal
-directionFault L P R work u v = tableFault L P R true work orElse pairFault (length P) u v
-
 unfoldable pub reply : Option Refusal → Heading → Heading
 reply none a = a
 reply (some r) a = Refused (r .number) (r .node)
 
+-- work: the length of the work list, whose contents don't matter
 unfoldable pub direction : Limits → List ℕ → List ℕ → Rule → ℕ → ℕ → ℕ → Heading
-direction L P R rule work u v = reply (directionFault L P R work u v) (course P R rule u v)
+direction L P R rule work u v = reply (tableFault L P R true work orElse pairFault (length P) u v) (course P R rule u v)
 
 -- W and X are the work list before and after
 pub record Directed (L : Limits) (P R : List ℕ) (rule : Rule) (W X : List ℕ) (u v : ℕ) (r : Heading) : Type 0 where
   pub answer : r ≡ direction L P R rule (length W) u v
-  pub spared : (f : Refusal) → shapeFault L P R true (length W) ≡ some f → X ≡ W
+  pub spared : Spared L P R true W X

@@ -22,12 +22,11 @@ use Rattle.table.specs.Numbering.{numbering}
 use Rattle.table.specs.Paths.{PathRises, SharePoint, CommonEnd}
 use Rattle.slopes.specs.declared.Rule.{Rule}
 use Rattle.slopes.specs.declared.Slope.{Slope}
-use Rattle.slopes.specs.Slopes.{slopeAt}
+use Rattle.slopes.specs.Slopes.{slopeAt, edge}
 use Rattle.slopes.specs.SlopeLaws.{slope-positive, slope-increasing}
 use Rattle.direction.specs.declared.Heading.{Heading}
 use Rattle.direction.specs.declared.Heading.the-variants.{Along, Refused}
-use Rattle.direction.specs.Direction.{edgeSlope, sideways, heading, course}
-use Rattle.direction.specs.Direction.{pairFault, directionFault, reply, direction}
+use Rattle.direction.specs.Direction.{sideways, heading, course, pairFault, reply, direction}
 use Rattle.direction.specs.RisingPaths.{Rising, Drawn, rising-paths}
 use Rattle.direction.specs.NoCrossing.{no-crossing}
 
@@ -42,7 +41,7 @@ rule-rises rule n = record {
 pub direction-given : (L : Limits) (P R : List ℕ) (rule : Rule) (work u v : ℕ) → tableFault L P R true work ≡ none
     → u < length P → v < length P → u ≢ v
     → direction L P R rule work u v ≡ course P R rule u v
-unfolding direction directionFault pairFault reply
+unfolding direction pairFault reply
 direction-given L P R rule work u v fine lu lv ne =
     ap (λ f. reply f (course P R rule u v))
     (orElse-second (tableFault L P R true work) _ fine
@@ -50,11 +49,12 @@ direction-given L P R rule work u v fine lu lv ne =
     ∙ refuse-no _ 13 0 (ne-eqb u v ne))
 
 module _ {P R : List ℕ} (tree : Tree P R) (rule : Rule) {t : ℕ → ℕ} {x y : List ℕ}
-    (drawn : Drawn P (edgeSlope P R rule) t x y) where
+    (drawn : Drawn P (edge P R rule) t x y) where
   -- along the direction that the call gives every edge of the path rises
   pub direction-rises : (L : Limits) (work u v : ℕ) → tableFault L P R true work ≡ none
       → u < length P → v < length P → u ≢ v
       → (d e : ℤ) × (direction L P R rule work u v ≡ Along d e) × PathRises P x y d e u v
+  unfolding edge
   direction-rises L work u v fine lu lv ne =
       let r = rising-paths tree (numbering tree) (rule-rises rule (length P)) drawn u v lu lv in
       (r .0, r .1, direction-given L P R rule work u v fine lu lv ne ∙ r .2, r .3)
@@ -62,6 +62,7 @@ module _ {P R : List ℕ} (tree : Tree P R) (rule : Rule) {t : ℕ → ℕ} {x y
   -- no two edges share a point but a common end
   pub edges-apart : (v w m i j : ℕ) → 0 < v → v < length P → 0 < w → w < length P → v ≢ w
       → SharePoint x y (parent P v) v (parent P w) w m i j → CommonEnd x y (parent P v) v (parent P w) w m i
+  unfolding edge
   edges-apart = no-crossing tree (numbering tree) (rule-rises rule (length P)) drawn
 
 ------------------------------------------------------------------------

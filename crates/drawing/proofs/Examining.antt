@@ -7,18 +7,20 @@ use native.Mathlib.Omega.{arith}
 use lib.Dec.{leb, eqb}
 use lib.ListN.{length}
 use borrow.Author.Tests.{le-leb, lt-leb, eq-eqb, ne-eqb}
-use Rattle.laws.specs.Refusals.{refusal, orElse-first, orElse-second, refuse-yes, refuse-no, refuseLeast-yes, refuseLeast-no}
+use Rattle.laws.specs.Refusals.{refusal, orElse-first, orElse-second, refuse-yes, refuse-no, refuseLeast-yes}
+use Rattle.laws.specs.Refusals.{refuseLeast-no}
 use Rattle.laws.specs.Search.{least, refuse, refuseLeast, _orElse_}
 use Rattle.table.specs.declared.Limits.{Limits}
 use Rattle.table.specs.declared.Validity.{Validity}
 use Rattle.table.specs.declared.Validity.the-variants.{Accepted, Refused}
-use Rattle.table.specs.Table.{validity}
+use Rattle.table.specs.Acceptance.{validity}
 use Rattle.slopes.specs.declared.Rule.{Rule}
 use Rattle.drawing.specs.Drawing.{Drawing, nodeFits, drawingFault}
 use Rattle.drawing.specs.Parts.{Prepared, Checked}
 use Rattle.drawing.proofs.Settling.{fault, no-fault, sized}
 
-module _ {L : Limits} {P R : List ℕ} {s : Drawing} {W X : List ℕ} {r : Validity} (p : Prepared L P R s W X r) (rule : Rule)
+module _ {L : Limits} {P R : List ℕ} {s : Drawing} {W X : List ℕ} {r : Validity} (p : Prepared L P R s W X r)
+    (rule : Rule)
     (v : ℕ) where
   abbrev misfit : ℕ → Bool
   misfit z = not (nodeFits (L .place) P R rule s z)

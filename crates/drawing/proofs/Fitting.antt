@@ -15,8 +15,8 @@ use Rattle.table.specs.Numbering.{numbering}
 use Rattle.table.specs.Table.{parent}
 use Rattle.slopes.specs.declared.Rule.{Rule}
 use Rattle.slopes.specs.declared.Slope.{Slope}
-use Rattle.slopes.specs.Slopes.{acrossOf, upOf, slopeAt}
-use Rattle.drawing.specs.Drawing.{Drawing, edge, placed, nodeFits}
+use Rattle.slopes.specs.Slopes.{acrossOf, upOf, slopeAt, edge}
+use Rattle.drawing.specs.Drawing.{Drawing, placed, nodeFits}
 use Rattle.drawing.specs.DrawingLaws.{bothPlaced, placed-root, placed-node, fits-root, fits-node}
 use Rattle.drawing.specs.Parts.{NumberedTree}
 use Rattle.drawing.proofs.Conjunction.{first-fails, first-holds}
@@ -66,7 +66,8 @@ module _ (limit : ℕ) (P R : List ℕ) (rule : Rule) (s : Drawing) {v t p : ℕ
       → r ≡ (eqb (getD (s .x) v 0) (getD (s .x) p 0 + t * slope .across) && leb (getD (s .x) v 0) limit)
       → r ≡ false → false ≡ nodeFits limit P R rule s v
   fits-not-x some e fails =
-      first-fails _ (sym (placed-is acrossOf (s .x) e) ∙ fails) ∙ first-holds _ (le-leb 1 (getD (s .times) v 0) (omega arith))
+      first-fails _ (sym (placed-is acrossOf (s .x) e) ∙ fails)
+      ∙ first-holds _ (le-leb 1 (getD (s .times) v 0) (omega arith))
       ∙ sym (fits-node limit P R rule s v above)
 
   pub fits-x : {r q : Bool} → 1 ≤ t
@@ -77,7 +78,8 @@ module _ (limit : ℕ) (P R : List ℕ) (rule : Rule) (s : Drawing) {v t p : ℕ
       placed-is upOf (s .y) f ∙ first-holds _ (sym (placed-is acrossOf (s .x) e) ∙ ok)
       ∙ first-holds _ (le-leb 1 (getD (s .times) v 0) (omega arith)) ∙ sym (fits-node limit P R rule s v above)
 
-pub fits-never : (limit : ℕ) (P R : List ℕ) (rule : Rule) (s : Drawing) {v t : ℕ} → 0 < v → t ≡ getD (s .times) v 0 → t < 1
+pub fits-never : (limit : ℕ) (P R : List ℕ) (rule : Rule) (s : Drawing) {v t : ℕ} → 0 < v → t ≡ getD (s .times) v 0
+    → t < 1
     → false ≡ nodeFits limit P R rule s v
 fits-never limit P R rule s {v} above e none =
     first-fails _ (lt-leb 1 (getD (s .times) v 0) (omega arith)) ∙ sym (fits-node limit P R rule s v above)
@@ -125,11 +127,13 @@ module _ (limit : ℕ) (P R : List ℕ) (rule : Rule) (s : Drawing) where
   fitting-start some e f = record {
     some = omega arith;
     inside = some;
-    before = λ z l. subst⁻¹ (λ k. nodeFits limit P R rule s k ≡ true) (omega arith) (root-test limit P R rule s ∙ sym e ∙ f);
+    before = λ z l. subst⁻¹ (λ k. nodeFits limit P R rule s k ≡ true) (omega arith)
+        (root-test limit P R rule s ∙ sym e ∙ f);
   }
 
 module _ {limit : ℕ} {P R : List ℕ} {rule : Rule} {s : Drawing} {v : ℕ} (x : Fitting limit P R rule s v) where
-  pub fitting-step : {r : Bool} → v < length P → r ≡ nodeFits limit P R rule s v → r ≡ true → Fitting limit P R rule s (v + 1)
+  pub fitting-step : {r : Bool} → v < length P → r ≡ nodeFits limit P R rule s v → r ≡ true
+      → Fitting limit P R rule s (v + 1)
   fitting-step l e t = record {
     some = omega arith;
     inside = omega arith;
@@ -140,7 +144,8 @@ module _ {limit : ℕ} {P R : List ℕ} {rule : Rule} {s : Drawing} {v : ℕ} (x
   pub fitting-not : {r : Bool} → v < length P → r ≡ nodeFits limit P R rule s v → r ≡ false
       → v ≡ least (misfit limit P R rule s) (length P)
   fitting-not l e f =
-      least-is (misfit limit P R rule s) (length P) v (omega arith) (λ k h. ap not (x .before k h)) (λ h. ap not (sym e ∙ f))
+      least-is (misfit limit P R rule s) (length P) v (omega arith) (λ k h. ap not (x .before k h))
+      (λ h. ap not (sym e ∙ f))
 
   pub fitting-end : length P ≤ v → length P ≡ least (misfit limit P R rule s) (length P)
   fitting-end h =

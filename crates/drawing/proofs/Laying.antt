@@ -11,8 +11,8 @@ use Rattle.table.specs.Table.{parent, order, postNumber}
 use Rattle.table.specs.TableLaws.{Tree}
 use Rattle.slopes.specs.declared.Rule.{Rule}
 use Rattle.slopes.specs.declared.Slope.{Slope}
-use Rattle.slopes.specs.Slopes.{acrossOf, upOf, slopeAt}
-use Rattle.drawing.specs.Drawing.{Drawing, lent, edge, fresh}
+use Rattle.slopes.specs.Slopes.{acrossOf, upOf, slopeAt, edge}
+use Rattle.drawing.specs.Drawing.{Drawing, lent, fresh}
 use Rattle.drawing.specs.DrawingLaws.{Coordinate, Drawn}
 use Rattle.drawing.specs.FreshLaws.{fresh-once, fresh-drawn}
 use Rattle.drawing.specs.Parts.{NumberedTree, Blank}

@@ -8,18 +8,18 @@ use native.Mathlib.Omega.{arith}
 use lib.ListN.{length}
 use Rattle.laws.specs.Refusals.{refusal, some-not-none, orElse-first}
 use Rattle.laws.specs.Search.{Refusal}
-use Rattle.table.specs.Acceptance.{accepting, validity-accepted, validity-refused}
+use Rattle.table.specs.Acceptance.{accepting, validity-accepted, validity-refused, validity}
 use Rattle.table.specs.declared.Limits.{Limits}
 use Rattle.table.specs.declared.Validity.{Validity}
 use Rattle.table.specs.declared.Validity.the-variants.{Accepted, Refused}
 use Rattle.table.specs.Numbering.{Numbered}
-use Rattle.table.specs.Table.{allLong, shapeFault, treeFault, tableFault, validity}
+use Rattle.table.specs.Table.{shapeFault, treeFault, tableFault}
 use Rattle.table.specs.Work.{Validated, Ready}
 use Rattle.slopes.specs.declared.Rule.{Rule}
 use Rattle.drawing.specs.declared.Framed.{Framed}
 use Rattle.drawing.specs.declared.Framed.the-variants as framed
 use Rattle.drawing.specs.CallLaws.{settle-none, settle-some}
-use Rattle.drawing.specs.Drawing.{Drawing, Outcome, lists, fresh, frame, layout, Laid, Lengthened, Shortened}
+use Rattle.drawing.specs.Drawing.{Drawing, Outcome, lengthsFit, fresh, frame, layout, Laid, Lengthened, Shortened}
 use Rattle.drawing.specs.DrawingLaws.{three-long}
 use Rattle.drawing.specs.FreshLaws.{Roomy}
 use Rattle.drawing.specs.Parts.{Prepared, Sized, Blank}
@@ -36,8 +36,8 @@ framed-outcome {t} e = ap (λ (a : Framed). record { answer = a; drawing = t }) 
 
 -- the table is tested, then numbered
 module _ (L : Limits) (P R : List ℕ) (s : Drawing) {long : Bool} {W X : List ℕ} {r : Validity}
-    (is : long ≡ allLong (length P) (lists s)) (v : Validated L P R long W X r) where
-  answer : r ≡ validity (tableFault L P R (allLong (length P) (lists s)) (length W))
+    (is : long ≡ lengthsFit P s) (v : Validated L P R long W X r) where
+  answer : r ≡ validity (tableFault L P R (lengthsFit P s) (length W))
   answer = v .answer ∙ ap (λ b. validity (tableFault L P R b (length W))) is
 
   pub prepared-refused : {k z : ℕ} → r ≡ Refused k z → Prepared L P R s W X (Refused k z)
@@ -47,7 +47,7 @@ module _ (L : Limits) (P R : List ℕ) (s : Drawing) {long : Bool} {W X : List �
     numbered = λ a. absurd (let z : _≡_ {A = ℕ} 0 1 = cc in omega arith);
   }
 
-  none-left : r ≡ Accepted → tableFault L P R (allLong (length P) (lists s)) (length W) ≡ none
+  none-left : r ≡ Accepted → tableFault L P R (lengthsFit P s) (length W) ≡ none
   none-left e = validity-accepted _ (sym answer ∙ e)
 
   pub prepared-ready : L .nodes < 2 ^ 32 → r ≡ Accepted → Ready P R X
@@ -60,7 +60,8 @@ module _ (L : Limits) (P R : List ℕ) (s : Drawing) {long : Bool} {W X : List �
         started = v .started e;
       }
 
-  pub prepared-accepted : {Y : List ℕ} → L .nodes < 2 ^ 32 → r ≡ Accepted → Numbered P R Y → Prepared L P R s W Y Accepted
+  pub prepared-accepted : {Y : List ℕ} → L .nodes < 2 ^ 32 → r ≡ Accepted → Numbered P R Y
+      → Prepared L P R s W Y Accepted
   prepared-accepted few e n =
       let a = prepared-ready few e in
       record {
@@ -70,10 +71,10 @@ module _ (L : Limits) (P R : List ℕ) (s : Drawing) {long : Bool} {W X : List �
       }
 
 module _ {L : Limits} {P R : List ℕ} {s : Drawing} {W X : List ℕ} {r : Validity} (p : Prepared L P R s W X r) where
-  pub no-fault : r ≡ Accepted → tableFault L P R (allLong (length P) (lists s)) (length W) ≡ none
+  pub no-fault : r ≡ Accepted → tableFault L P R (lengthsFit P s) (length W) ≡ none
   no-fault e = validity-accepted _ (sym (p .answer) ∙ e)
 
-  pub fault : {k z : ℕ} → r ≡ Refused k z → tableFault L P R (allLong (length P) (lists s)) (length W) ≡ refusal k z
+  pub fault : {k z : ℕ} → r ≡ Refused k z → tableFault L P R (lengthsFit P s) (length W) ≡ refusal k z
   fault {k} {z} e = validity-refused _ k z (sym (p .answer) ∙ e)
 
   pub sized : r ≡ Accepted → Sized P R s X
@@ -104,11 +105,13 @@ module _ {L : Limits} {P R : List ℕ} {s : Drawing} {W X : List ℕ} {r : Valid
   }
 
 -- at limits that are the same
-pub laid-at : {L M : Limits} {P R : List ℕ} {rule : Rule} {s : Drawing} {W : List ℕ} {t : Drawing} {X : List ℕ} {r : Framed}
+pub laid-at : {L M : Limits} {P R : List ℕ} {rule : Rule} {s : Drawing} {W : List ℕ} {t : Drawing} {X : List ℕ}
+    {r : Framed}
     → L ≡ M → Laid L P R rule s W t X r → Laid M P R rule s W t X r
 laid-at {P = P} {R} {rule} {s} {W} {t} {X} {r} e = subst (λ M. Laid M P R rule s W t X r) e
 
-module _ {L M : Limits} {P R : List ℕ} {rule : Rule} {s : Drawing} {W : List ℕ} {v c : ℕ} {t : Drawing} {X : List ℕ} {r : Framed}
+module _ {L M : Limits} {P R : List ℕ} {rule : Rule} {s : Drawing} {W : List ℕ} {v c : ℕ} {t : Drawing} {X : List ℕ}
+    {r : Framed}
     (e : L ≡ M) where
   pub lengthened-at : Lengthened L P R rule s W v c t X r → Lengthened M P R rule s W v c t X r
   lengthened-at = subst (λ M. Lengthened M P R rule s W v c t X r) e

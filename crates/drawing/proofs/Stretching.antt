@@ -17,15 +17,17 @@ use Rattle.table.specs.declared.Validity.the-variants.{Accepted, Refused}
 use Rattle.table.specs.Table.{under}
 use Rattle.slopes.specs.declared.Rule.{Rule}
 use Rattle.slopes.specs.declared.Slope.{Slope}
-use Rattle.slopes.specs.Slopes.{acrossOf, upOf}
+use Rattle.slopes.specs.Slopes.{acrossOf, upOf, edge}
 use Rattle.drawing.specs.declared.Framed.{Framed}
 use Rattle.drawing.specs.declared.Framed.the-variants as framed
-use Rattle.drawing.specs.CallLaws.{settle-none, settle-some, Examined, examined, beyond-no, beyond-x, beyond-y, no-beyond}
-use Rattle.drawing.specs.Drawing.{Drawing, Outcome, lent, edge, frame, moved, stretched, longer, shorter, beyond}
+use Rattle.drawing.specs.CallLaws.{settle-none, settle-some, Examined, examined, beyond-no, beyond-x, beyond-y}
+use Rattle.drawing.specs.CallLaws.{no-beyond}
+use Rattle.drawing.specs.Drawing.{Drawing, Outcome, lent, frame, moved, stretched, beyond}
+use Rattle.drawing.specs.StretchLaws.{shorter, longer, Moved, offset-in, moved-in, moved-out, same-drawing}
+use Rattle.drawing.specs.StretchLaws.{longer-stretch, back-room, stretch-drawn}
 use Rattle.drawing.specs.Drawing.{settle, drawingFault, lengthen, shorten, Lengthened, Shortened}
 use Rattle.drawing.specs.DrawingLaws.{Coordinate, Drawn, drawn-times}
 use Rattle.drawing.specs.Parts.{by, Passes, Movable, Stretchable, Stretched, Checked}
-use Rattle.drawing.specs.StretchLaws.{Moved, offset-in, moved-in, moved-out, same-drawing, longer-stretch, back-room, stretch-drawn}
 use Rattle.drawing.proofs.Settling.{framed-outcome}
 
 ------------------------------------------------------------------------
@@ -120,7 +122,8 @@ module _ {L : Limits} {P R : List ℕ} {rule : Rule} {s : Drawing} {W : List ℕ
   refused : {a z : ℕ} (own : Option Refusal) (new : Drawing) → r ≡ Refused a z
       → _≡_ {A = Outcome} (record { answer = framed.Refused a z; drawing = s }) (outcome own new)
   refused {a} {z} own new e =
-      sym (settle-some s new _ (orElse-first _ own (validity-refused (drawingFault L P R rule s (length W) v) a z (sym (k .answer) ∙ e))))
+      sym (settle-some s new _ (orElse-first _ own
+      (validity-refused (drawingFault L P R rule s (length W) v) a z (sym (k .answer) ∙ e))))
 
   module _ (ok : r ≡ Accepted) where
     passed : drawingFault L P R rule s (length W) v ≡ none
@@ -161,14 +164,17 @@ module _ {L : Limits} {P R : List ℕ} {rule : Rule} {s : Drawing} {W : List ℕ
           → q ≡ false → Stretched P R rule s v c true t a → Lengthened L P R rule s W v c t X a
       unfolding lengthen
       lengthened e f new = record {
-        outcome = renewed ok _ (longer P R rule s v c) (refuse-no _ (L .beyond) v (sym e ∙ f)) (new .drawing) (new .answer);
+        outcome = renewed ok _ (longer P R rule s v c) (refuse-no _ (L .beyond) v (sym e ∙ f)) (new .drawing)
+            (new .answer);
         spared = k .spared;
       }
 
-      pub shortened-12 : {n : ℕ} → n ≡ getD (s .times) v 0 → n ≤ c → Shortened L P R rule s W v c s X (framed.Refused 12 v)
+      pub shortened-12 : {n : ℕ} → n ≡ getD (s .times) v 0 → n ≤ c
+          → Shortened L P R rule s W v c s X (framed.Refused 12 v)
       unfolding shorten
       shortened-12 e h = record {
-        outcome = own-refused ok _ (shorter P R rule s v c) (refuse-yes _ 12 v (le-leb (getD (s .times) v 0) c (omega arith)));
+        outcome = own-refused ok _ (shorter P R rule s v c)
+            (refuse-yes _ 12 v (le-leb (getD (s .times) v 0) c (omega arith)));
         spared = k .spared;
       }
 
@@ -176,7 +182,8 @@ module _ {L : Limits} {P R : List ℕ} {rule : Rule} {s : Drawing} {W : List ℕ
           → Stretched P R rule s v c false t a → Shortened L P R rule s W v c t X a
       unfolding shorten
       shortened e h new = record {
-        outcome = renewed ok _ (shorter P R rule s v c) (refuse-no _ 12 v (lt-leb (getD (s .times) v 0) c (omega arith)))
+        outcome = renewed ok _ (shorter P R rule s v c)
+            (refuse-no _ 12 v (lt-leb (getD (s .times) v 0) c (omega arith)))
             (new .drawing) (new .answer);
         spared = k .spared;
       }
@@ -212,6 +219,8 @@ module _ {L : Limits} {P R : List ℕ} {rule : Rule} {s : Drawing} {W : List ℕ
             long = x .drawn .long;
             more = λ t. absurd (differ t refl);
             less = λ t. less;
-            x = movable-back (x .drawn .x .long) (back-room (x .accepting .tree) (x .above) (x .inside) (x .drawn .x) less);
-            y = movable-back (x .drawn .y .long) (back-room (x .accepting .tree) (x .above) (x .inside) (x .drawn .y) less);
+            x = movable-back (x .drawn .x .long)
+                (back-room (x .accepting .tree) (x .above) (x .inside) (x .drawn .x) less);
+            y = movable-back (x .drawn .y .long)
+                (back-room (x .accepting .tree) (x .above) (x .inside) (x .drawn .y) less);
           }

@@ -10,8 +10,8 @@ use lib.Seq.{ext-getD}
 use Rattle.laws.specs.Regions.{read-set}
 use Rattle.laws.specs.Tests.{by-test, by-eq, differ}
 use Rattle.table.specs.Numbering.{numbering, number-at, in-subtree}
-use Rattle.table.specs.Postorder.{first-is}
-use Rattle.table.specs.Table.{under, order, postNumber, firstNumber}
+use Rattle.table.specs.Postorder.{first-is, firstNumber}
+use Rattle.table.specs.Table.{under, order, postNumber}
 use Rattle.drawing.specs.Drawing.{moved}
 use Rattle.drawing.specs.Parts.{by, NumberedTree, Passes, Movable}
 use Rattle.drawing.specs.StretchLaws.{moved-long, moved-in, moved-out}
@@ -132,7 +132,8 @@ pub record Moving (P R W X : List ℕ) (v d : ℕ) (longer : Bool) (Y : List ℕ
   pub walk : Walk P R W v last j
   pub can : Movable P X v d longer
   pub long : length Y ≡ length P
-  pub before : (w : ℕ) → w < length P → under P v w ≡ true → postNumber P R w ≤ j → getD Y w 0 ≡ by longer (getD X w 0) d
+  pub before : (w : ℕ) → w < length P → under P v w ≡ true → postNumber P R w ≤ j
+      → getD Y w 0 ≡ by longer (getD X w 0) d
   pub after : (w : ℕ) → w < length P → (under P v w ≡ true → j < postNumber P R w) → getD Y w 0 ≡ getD X w 0
 
 pub moving-start : {P R W X : List ℕ} {v d : ℕ} {longer : Bool} {last first : ℕ} → NumberedTree P R W
@@ -155,20 +156,25 @@ movable-fits : {P X : List ℕ} {v d : ℕ} {longer : Bool} → Movable P X v d 
 movable-fits {longer = true} m z a l u e h = omega (arith, m .on refl z l u)
 movable-fits {longer = false} m z a l u e h = omega arith
 
-module _ {P R W X : List ℕ} {v d : ℕ} {longer : Bool} {Y : List ℕ} {last j : ℕ} (m : Moving P R W X v d longer Y last j) where
+module _ {P R W X : List ℕ} {v d : ℕ} {longer : Bool} {Y : List ℕ} {last j : ℕ}
+    (m : Moving P R W X v d longer Y last j) where
   moving-here : {z a : ℕ} → Visit P R v j z → a ≡ getD Y z 0 → a ≡ getD X z 0
   moving-here {z} x e = e ∙ m .after z (x .inside) (λ u. omega (arith, x .number))
 
   -- the sum or difference is one of 64 bits, and the place one of 32
-  pub moving-can : {z a : ℕ} → Visit P R v j z → a ≡ getD Y z 0 → (longer ≡ true → a + d < 2 ^ 64) × (longer ≡ false → d ≤ a)
+  pub moving-can : {z a : ℕ} → Visit P R v j z → a ≡ getD Y z 0
+      → (longer ≡ true → a + d < 2 ^ 64) × (longer ≡ false → d ≤ a)
   moving-can {z} x e =
-      let here = moving-here x e in
-      (λ t. omega (arith, m .can .on t z (x .inside) (x .under-v)), λ f. omega (arith, m .can .back f z (x .inside) (x .under-v)))
+      let here = moving-here x e in (
+        λ t. omega (arith, m .can .on t z (x .inside) (x .under-v)),
+        λ f. omega (arith, m .can .back f z (x .inside) (x .under-v)),
+      )
 
   pub moving-fits : {z a : ℕ} → Visit P R v j z → a ≡ getD Y z 0 → a < 2 ^ 32 → by longer a d < 2 ^ 32
   moving-fits {z} {a} x e h = movable-fits (m .can) z a (x .inside) (x .under-v) (moving-here x e) h
 
-  pub moving-step : {z a b : ℕ} {Z : List ℕ} → j < last → Visit P R v j z → a ≡ getD Y z 0 → b ≡ by longer a d → Z ≡ set Y z b
+  pub moving-step : {z a b : ℕ} {Z : List ℕ} → j < last → Visit P R v j z → a ≡ getD Y z 0 → b ≡ by longer a d
+      → Z ≡ set Y z b
       → Moving P R W X v d longer Z last (j + 1)
   moving-step {z} {a} {b} {Z} l x e is q = record {
     walk = walk-step (m .walk) l;
@@ -194,5 +200,6 @@ module _ {P R W X : List ℕ} {v d : ℕ} {longer : Bool} {Y : List ℕ} {last j
       ext-getD 0 Y (moved P (λ a. by longer a d) v X) (m .long ∙ sym (moved-long P (λ a. by longer a d) v X))
       (λ i l. let li : i < length P = omega (arith, m .long) in
       by-test (under P v i)
-      (λ u. m .before i li u (omega (arith, last-under (m .walk) i li u)) ∙ sym (moved-in P (λ a. by longer a d) v X i li u))
+      (λ u. m .before i li u (omega (arith, last-under (m .walk) i li u))
+      ∙ sym (moved-in P (λ a. by longer a d) v X i li u))
       (λ u. m .after i li (λ g. absurd (differ g u)) ∙ sym (moved-out P (λ a. by longer a d) v X i li u)))

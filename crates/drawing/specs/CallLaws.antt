@@ -2,8 +2,8 @@
 --
 --   Examined L ..               == what refusals 1 to 10 leave
 --   Untouched s o               == the outcome o of a call on s is a refusal
---   Stretching L .. v c s t o   == the outcome o of a call is its frame, and of s and t, the shorter and the longer drawing,
---                                  one was given and the other is left
+--   Stretching L .. v c s t o   == the outcome o of a call is its frame, and of s and t, the shorter and the longer
+--                                  drawing, one was given and the other is left
 --   layout-drawn                == layout leaves a drawing
 --   lengthen-does, shorten-does == lengthen and shorten refuse or stretch
 --   shorten-undoes              == shorten undoes lengthen
@@ -18,21 +18,23 @@ use native.Mathlib.Omega.{arith}
 use lib.Dec.{ltb, leb}
 use lib.ListN.{length, getD}
 use borrow.Author.Tests.{ltb-false, lt-ltb, le-ltb, lt-leb, leb-false, eqb-false, ne-eqb, not-false}
-use Rattle.laws.specs.Refusals.{refusal, orElse-second, orElse-none, refuse-no, refuse-none, refuseLeast-no, refuseLeast-none}
+use Rattle.laws.specs.Refusals.{refusal, orElse-second, orElse-none, refuse-no, refuse-none, refuseLeast-no}
+use Rattle.laws.specs.Refusals.{refuseLeast-none}
 use Rattle.laws.specs.Search.{least, Refusal, refuse, refuseLeast, _orElse_}
 use Rattle.laws.specs.SearchLaws.{least-found, least-is, least-none}
 use Rattle.laws.specs.Tests.{neither, neither-is, either-first, either-second}
 use Rattle.table.specs.Acceptance.{Accepting, accepting}
 use Rattle.table.specs.declared.Limits.{Limits}
-use Rattle.table.specs.Table.{allLong, tableFault}
+use Rattle.table.specs.Table.{tableFault}
 use Rattle.table.specs.TableLaws.{Tree}
 use Rattle.slopes.specs.declared.Rule.{Rule}
 use Rattle.drawing.specs.declared.Framed.the-variants.{Frame, Refused}
-use Rattle.drawing.specs.Drawing.{Drawing, Outcome, lists, fresh, frame, nodeFits, longer, shorter}
+use Rattle.drawing.specs.Drawing.{Drawing, Outcome, lengthsFit, fresh, frame, nodeFits}
+use Rattle.drawing.specs.StretchLaws.{shorter, longer, Stretch, longer-stretch, shorter-stretch, stretch-drawn}
+use Rattle.drawing.specs.StretchLaws.{unstretch-drawn, stretch-one, unstretch-one, stretch-0}
 use Rattle.drawing.specs.Drawing.{beyond, settle, drawingFault, layout, lengthen, shorten}
 use Rattle.drawing.specs.DrawingLaws.{Drawn, all-three, fits-drawn, drawn-fits}
 use Rattle.drawing.specs.FreshLaws.{Roomy, fresh-drawn}
-use Rattle.drawing.specs.StretchLaws.{Stretch, longer-stretch, shorter-stretch, stretch-drawn, unstretch-drawn, stretch-one, unstretch-one, stretch-0}
 
 ------------------------------------------------------------------------
 -- A refusal, or the new drawing
@@ -60,20 +62,21 @@ module _ (old new : Drawing) where
 -- Refusals 8 to 11
 
 pub record Examined (L : Limits) (P R : List ℕ) (rule : Rule) (s : Drawing) (work v : ℕ) : Type 0 where
-  pub table : tableFault L P R (allLong (length P) (lists s)) work ≡ none
-  pub accepting : Accepting L P R (allLong (length P) (lists s)) work
+  pub table : tableFault L P R (lengthsFit P s) work ≡ none
+  pub accepting : Accepting L P R (lengthsFit P s) work
   pub drawn : Drawn (L .place) P R rule s
   pub above : 0 < v
   pub inside : v < length P
 
-pub examined : (L : Limits) (P R : List ℕ) (rule : Rule) (s : Drawing) (work v : ℕ) → drawingFault L P R rule s work v ≡ none
+pub examined : (L : Limits) (P R : List ℕ) (rule : Rule) (s : Drawing) (work v : ℕ)
+    → drawingFault L P R rule s work v ≡ none
     → Examined L P R rule s work v
 unfolding drawingFault
 examined L P R rule s work v e =
-    let a = orElse-none (tableFault L P R (allLong (length P) (lists s)) work) _ e in
+    let a = orElse-none (tableFault L P R (lengthsFit P s) work) _ e in
     let b = orElse-none (refuseLeast 8 (length P) (λ z. not (nodeFits (L .place) P R rule s z))) _ (a .1) in
     let c = orElse-none (refuse (leb (length P) v) 9 0) _ (b .1) in
-    let t = accepting L P R (allLong (length P) (lists s)) work (a .0) in
+    let t = accepting L P R (lengthsFit P s) work (a .0) in
     let ne : v ≡ 0 → ⊥ = eqb-false v 0 (refuse-none _ 10 0 (c .1)) in
     record {
       table = a .0;
@@ -89,11 +92,12 @@ pub examined-again : {L : Limits} {P R : List ℕ} {rule : Rule} {s : Drawing} {
     → {t : Drawing} → Drawn (L .place) P R rule t → drawingFault L P R rule t work v ≡ none
 unfolding drawingFault
 examined-again {L} {P} {R} {rule} {s} {work} {v} x {t} d =
-    let long : allLong (length P) (lists t) ≡ allLong (length P) (lists s) =
+    let long : lengthsFit P t ≡ lengthsFit P s =
     all-three (length P) t (d .long) (d .x .long) (d .y .long) ∙ sym (x .accepting .shape .others) in
     orElse-second _ _ (ap (λ b. tableFault L P R b work) long ∙ x .table)
     ∙ orElse-second _ _ (refuseLeast-no 8 (length P) _ (length P)
-    (least-is _ (length P) (length P) (omega arith) (λ z l. ap not (drawn-fits (L .place) P R rule t d z l)) (λ l. absurd (omega arith)))
+    (least-is _ (length P) (length P) (omega arith) (λ z l. ap not (drawn-fits (L .place) P R rule t d z l))
+    (λ l. absurd (omega arith)))
     (omega arith))
     ∙ orElse-second _ _ (refuse-no _ 9 0 (lt-leb (length P) v (x .inside)))
     ∙ refuse-no _ 10 0 (ne-eqb v 0 (λ e. omega (arith, x .above)))
@@ -114,7 +118,8 @@ module _ (limit n : ℕ) (t : Drawing) where
       le-ltb (least far n) n (omega (
         arith,
         least-is far n n (omega arith)
-            (λ z l. neither-is (le-ltb limit (getD (t .x) z 0) (fits z l .0)) (le-ltb limit (getD (t .y) z 0) (fits z l .1)))
+            (λ z l. neither-is (le-ltb limit (getD (t .x) z 0) (fits z l .0))
+            (le-ltb limit (getD (t .y) z 0) (fits z l .1)))
             (λ l. absurd (omega arith)),
       ))
 
@@ -137,11 +142,12 @@ pub layout-drawn : (L : Limits) → Roomy L → (P R : List ℕ) (rule : Rule) (
     → Tree P R × Drawn (L .place) P R rule s × (fresh P R rule ≡ s)
 unfolding layout
 layout-drawn L room P R rule old work w h s e =
-    let f = settled old (fresh P R rule) (tableFault L P R (allLong (length P) (lists old)) work) e in
-    let a = accepting L P R (allLong (length P) (lists old)) work (f .0) in (
+    let f = settled old (fresh P R rule) (tableFault L P R (lengthsFit P old) work) e in
+    let a = accepting L P R (lengthsFit P old) work (f .0) in (
       a .tree,
       subst (λ t. Drawn (L .place) P R rule t) (f .1)
-          (fresh-drawn (a .tree) rule (room .across rule (length P) (a .shape .few)) (room .up rule (length P) (a .shape .few))),
+          (fresh-drawn (a .tree) rule (room .across rule (length P) (a .shape .few))
+          (room .up rule (length P) (a .shape .few))),
       f .1,
     )
 
@@ -165,7 +171,8 @@ module _ (L : Limits) (P R : List ℕ) (rule : Rule) (s : Drawing) (work v c : �
   abbrev tooShort : Option Refusal
   tooShort = refuse (leb (getD (s .times) v 0) c) 12 v
 
-  pub lengthen-does : (let o = lengthen L P R rule s work v c in Untouched s o ⊎ Stretching L P R rule v c s (o .drawing) o)
+  pub lengthen-does : (let o = lengthen L P R rule s work v c in
+      Untouched s o ⊎ Stretching L P R rule v c s (o .drawing) o)
   unfolding lengthen settle
   lengthen-does = go (drawingFault L P R rule s work v orElse tooFar) refl
     where
@@ -188,7 +195,8 @@ module _ (L : Limits) (P R : List ℕ) (rule : Rule) (s : Drawing) (work v c : �
             stretch = m;
           })
 
-  pub shorten-does : (let o = shorten L P R rule s work v c in Untouched s o ⊎ Stretching L P R rule v c (o .drawing) s o)
+  pub shorten-does : (let o = shorten L P R rule s work v c in
+      Untouched s o ⊎ Stretching L P R rule v c (o .drawing) s o)
   unfolding shorten settle
   shorten-does = go (drawingFault L P R rule s work v orElse tooShort) refl
     where
@@ -217,10 +225,12 @@ pub shorten-undoes : (L : Limits) (P R : List ℕ) (rule : Rule) (s : Drawing) (
     → shorten L P R rule t work v c ≡ record { answer = frame s; drawing = s }
 unfolding lengthen shorten
 shorten-undoes L P R rule s work v c w h t e =
-    let f = settled s (longer P R rule s v c) (drawingFault L P R rule s work v orElse tooFar L P R rule s work v c) e in
+    let f =
+    settled s (longer P R rule s v c) (drawingFault L P R rule s work v orElse tooFar L P R rule s work v c) e in
     let parts = orElse-none (drawingFault L P R rule s work v) (tooFar L P R rule s work v c) (f .0) in
     let x = examined L P R rule s work v (parts .0) in
-    let on : Stretch P R rule v c s t = subst (λ u. Stretch P R rule v c s u) (f .1) (longer-stretch (x .drawn) (x .inside)) in
+    let on : Stretch P R rule v c s t =
+    subst (λ u. Stretch P R rule v c s u) (f .1) (longer-stretch (x .drawn) (x .inside)) in
     let d : Drawn (L .place) P R rule t =
     stretch-drawn (x .accepting .tree) (x .above) (x .inside) on (x .drawn)
     (subst (λ u. (z : ℕ) → z < length P → (getD (u .x) z 0 ≤ L .place) × (getD (u .y) z 0 ≤ L .place)) (f .1)
@@ -263,5 +273,6 @@ module _ (L : Limits) (P R : List ℕ) (rule : Rule) (s : Drawing) (work v : ℕ
       examine (tooShort L P R rule s work v 0) (shorter P R rule s v 0)
       (λ x. (
         refuse-no _ 12 v (lt-leb (getD (s .times) v 0) 0 (x .drawn .some v (x .inside))),
-        unstretch-one (x .inside) (shorter-stretch (x .accepting .tree) (x .above) (x .inside) (x .drawn) (omega arith)) (stretch-0 (x .drawn)),
+        unstretch-one (x .inside) (shorter-stretch (x .accepting .tree) (x .above) (x .inside) (x .drawn)
+            (omega arith)) (stretch-0 (x .drawn)),
       ))

@@ -5,16 +5,15 @@
 -- long), x and y. x and y are one thing twice: a coordinate is a list of places, with the part of a slope that it adds
 -- up.
 --
---   edge P R rule v           == the slope of v's edge, from its parent to v
+--   lengthsFit P s            == the lists of s are as long as P
 --   pathSum P g v             == the sum of g over the path of v: v, its parent, .., a child of the root
 --   fresh P R rule            == the drawing with every times 1
 --   largest l                 == the largest of a list, 0 of an empty one
 --   frame s                   == the largest x and the largest y
 --   placed limit .. v         == a coordinate of v is right against its parent's, and within the limit
 --   nodeFits limit .. v       == times and place of v are right against its parent's place, and within the limit
---   misfit limit .. v         == they are not
 --   moved P move v places     == a coordinate with v's subtree moved
---   longer, shorter .. s v c  == the drawing with v's edge c times its slope longer or shorter, v's subtree moved along
+--   stretched by .. s v c     == the drawing with v's edge c times its slope longer or shorter, v's subtree moved along
 --   beyond limit n s          == some place is beyond the limit
 --   drawingFault L ..         == refusals 1 to 10 at the limits L
 --   layout, lengthen, shorten == the calls: what they answer, and the drawing that they leave
@@ -29,10 +28,10 @@ use lib.Dec.{ltb, leb, eqb}
 use lib.ListN.{length, getD, set, replicate}
 use Rattle.laws.specs.Search.{least, tabulate, Refusal, refuse, refuseLeast, _orElse_}
 use Rattle.table.specs.declared.Limits.{Limits}
-use Rattle.table.specs.Table.{parent, under, postNumber, allLong, shapeFault, tableFault}
+use Rattle.table.specs.Table.{parent, under, allLong, tableFault, Spared}
 use Rattle.slopes.specs.declared.Rule.{Rule}
 use Rattle.slopes.specs.declared.Slope.{Slope}
-use Rattle.slopes.specs.Slopes.{acrossOf, upOf, slopeAt}
+use Rattle.slopes.specs.Slopes.{acrossOf, upOf, edge}
 use Rattle.drawing.specs.declared.Framed.{Framed}
 use Rattle.drawing.specs.declared.Framed.the-variants.{Frame, Refused}
 
@@ -44,11 +43,8 @@ pub record Drawing : Type 0 where
   pub x : List ℕ
   pub y : List ℕ
 
-abbrev pub lists : Drawing → List (List ℕ)
-lists s = s .times ∷ s .x ∷ s .y ∷ []
-
-unfoldable pub edge : List ℕ → List ℕ → Rule → ℕ → Slope
-edge P R rule v = slopeAt rule (length P) (postNumber P R v)
+abbrev pub lengthsFit : List ℕ → Drawing → Bool
+lengthsFit P s = allLong (length P) (s .times ∷ s .x ∷ s .y ∷ [])
 
 unfoldable pub sumUp : List ℕ → (ℕ → ℕ) → ℕ → ℕ → ℕ
 sumUp P g zero v = 0
@@ -88,9 +84,6 @@ nodeFits limit P R rule s v =
     cond (eqb v 0) (eqb (getD (s .times) v 0) 1) (leb 1 (getD (s .times) v 0))
     && (placed limit P R rule (s .times) acrossOf (s .x) v && placed limit P R rule (s .times) upOf (s .y) v)
 
-abbrev pub misfit : ℕ → List ℕ → List ℕ → Rule → Drawing → ℕ → Bool
-misfit limit P R rule s v = not (nodeFits limit P R rule s v)
-
 ------------------------------------------------------------------------
 -- Stretching
 
@@ -104,12 +97,6 @@ stretched by P R rule s v c = record {
   x = moved P (λ a. by a (c * acrossOf (edge P R rule v))) v (s .x);
   y = moved P (λ a. by a (c * upOf (edge P R rule v))) v (s .y);
 }
-
-abbrev pub longer : List ℕ → List ℕ → Rule → Drawing → ℕ → ℕ → Drawing
-longer = stretched _+_
-
-abbrev pub shorter : List ℕ → List ℕ → Rule → Drawing → ℕ → ℕ → Drawing
-shorter = stretched _-_
 
 unfoldable pub beyond : ℕ → ℕ → Drawing → Bool
 beyond limit n s = ltb (least (λ z. ltb limit (getD (s .x) z 0) || ltb limit (getD (s .y) z 0)) n) n
@@ -127,23 +114,23 @@ settle none old new = record { answer = frame new; drawing = new }
 settle (some r) old new = record { answer = Refused (r .number) (r .node); drawing = old }
 
 unfoldable pub layout : Limits → List ℕ → List ℕ → Rule → Drawing → ℕ → Outcome
-layout L P R rule s work = settle (tableFault L P R (allLong (length P) (lists s)) work) s (fresh P R rule)
+layout L P R rule s work = settle (tableFault L P R (lengthsFit P s) work) s (fresh P R rule)
 
 unfoldable pub drawingFault : Limits → List ℕ → List ℕ → Rule → Drawing → ℕ → ℕ → Option Refusal
 drawingFault L P R rule s work v =
-    tableFault L P R (allLong (length P) (lists s)) work
-    orElse refuseLeast 8 (length P) (misfit (L .place) P R rule s)
+    tableFault L P R (lengthsFit P s) work
+    orElse refuseLeast 8 (length P) (λ z. not (nodeFits (L .place) P R rule s z))
     orElse refuse (leb (length P) v) 9 0
     orElse refuse (eqb v 0) 10 0
 
 unfoldable pub lengthen : Limits → List ℕ → List ℕ → Rule → Drawing → ℕ → ℕ → ℕ → Outcome
 lengthen L P R rule s work v c =
-    let new = longer P R rule s v c in
+    let new = stretched _+_ P R rule s v c in
     settle (drawingFault L P R rule s work v orElse refuse (beyond (L .place) (length P) new) (L .beyond) v) s new
 
 unfoldable pub shorten : Limits → List ℕ → List ℕ → Rule → Drawing → ℕ → ℕ → ℕ → Outcome
 shorten L P R rule s work v c =
-    let new = shorter P R rule s v c in
+    let new = stretched _-_ P R rule s v c in
     settle (drawingFault L P R rule s work v orElse refuse (leb (getD (s .times) v 0) c) 12 v) s new
 
 ------------------------------------------------------------------------
@@ -153,19 +140,15 @@ shorten L P R rule s work v c =
 abbrev pub lent : List ℕ → List ℕ → List ℕ → Drawing
 lent times x y = record { times = times; x = x; y = y }
 
--- refusals 1 to 3 leave the work list
-abbrev pub Spared : Limits → List ℕ → List ℕ → Drawing → List ℕ → List ℕ → Type 0
-Spared L P R s W X = (f : Refusal) → shapeFault L P R (allLong (length P) (lists s)) (length W) ≡ some f → X ≡ W
-
 module _ (L : Limits) (P R : List ℕ) (rule : Rule) (s : Drawing) (W : List ℕ) where
   pub record Laid (t : Drawing) (X : List ℕ) (r : Framed) : Type 0 where
     pub outcome : record { answer = r; drawing = t } ≡ layout L P R rule s (length W)
-    pub spared : Spared L P R s W X
+    pub spared : Spared L P R (lengthsFit P s) W X
 
   pub record Lengthened (v c : ℕ) (t : Drawing) (X : List ℕ) (r : Framed) : Type 0 where
     pub outcome : record { answer = r; drawing = t } ≡ lengthen L P R rule s (length W) v c
-    pub spared : Spared L P R s W X
+    pub spared : Spared L P R (lengthsFit P s) W X
 
   pub record Shortened (v c : ℕ) (t : Drawing) (X : List ℕ) (r : Framed) : Type 0 where
     pub outcome : record { answer = r; drawing = t } ≡ shorten L P R rule s (length W) v c
-    pub spared : Spared L P R s W X
+    pub spared : Spared L P R (lengthsFit P s) W X

@@ -1,6 +1,6 @@
 -- What the test of refusal 8 says of a drawing, and what the frame is.
 --
---   Coordinate limit .. part X    == X has the places of a drawing, in the coordinate that adds up `part`, within the limit
+--   Coordinate limit .. part X    == X has a drawing's places in the coordinate that adds up `part`, within the limit
 --   Drawn limit P R rule s        == s is a drawing of the table under the rule (document 01: a sheet)
 --   fits-drawn, drawn-fits        == it is one exactly when every node fits
 --   drawn-times                   == times are within the limit too
@@ -22,8 +22,8 @@ use Rattle.table.specs.TableLaws.{Tree}
 use Rattle.slopes.specs.declared.Rule.{Rule}
 use Rattle.slopes.specs.declared.Slope.{Slope}
 use Rattle.slopes.specs.SlopeLaws.{slope-positive}
-use Rattle.slopes.specs.Slopes.{acrossOf, upOf, slopeAt}
-use Rattle.drawing.specs.Drawing.{Drawing, lists, edge, largest, placed, nodeFits}
+use Rattle.slopes.specs.Slopes.{acrossOf, upOf, slopeAt, edge}
+use Rattle.drawing.specs.Drawing.{Drawing, lengthsFit, largest, placed, nodeFits}
 use Rattle.drawing.specs.PathLaws.{Adds}
 
 ------------------------------------------------------------------------
@@ -33,7 +33,8 @@ use Rattle.drawing.specs.PathLaws.{Adds}
 abbrev pub stepOf : List ℕ → List ℕ → Rule → (Slope → ℕ) → List ℕ → ℕ → ℕ
 stepOf P R rule part times v = getD times v 0 * part (edge P R rule v)
 
-pub record Coordinate (limit : ℕ) (P R : List ℕ) (rule : Rule) (times : List ℕ) (part : Slope → ℕ) (X : List ℕ) : Type 0 where
+pub record Coordinate (limit : ℕ) (P R : List ℕ) (rule : Rule) (times : List ℕ) (part : Slope → ℕ)
+    (X : List ℕ) : Type 0 where
   pub long : length X ≡ length P
   pub adds : Adds P (stepOf P R rule part times) X
   pub within : (v : ℕ) → v < length P → getD X v 0 ≤ limit
@@ -49,11 +50,11 @@ pub record Drawn (limit : ℕ) (P R : List ℕ) (rule : Rule) (s : Drawing) : Ty
 -- The lengths
 
 pub all-three : (n : ℕ) (s : Drawing) → length (s .times) ≡ n → length (s .x) ≡ n → length (s .y) ≡ n
-    → allLong n (lists s) ≡ true
+    → allLong n (s .times ∷ s .x ∷ s .y ∷ []) ≡ true
 unfolding allLong
 all-three n s t x y = both-is (eq-eqb _ n t) (both-is (eq-eqb _ n x) (both-is (eq-eqb _ n y) refl))
 
-pub three-long : (n : ℕ) (s : Drawing) → allLong n (lists s) ≡ true
+pub three-long : (n : ℕ) (s : Drawing) → allLong n (s .times ∷ s .x ∷ s .y ∷ []) ≡ true
     → (length (s .times) ≡ n) × (length (s .x) ≡ n) × (length (s .y) ≡ n)
 unfolding allLong
 three-long n s e =
@@ -89,13 +90,16 @@ module _ (limit : ℕ) (P R : List ℕ) (rule : Rule) where
     coordinate-placed c v l =
         by-eq v 0
         (λ e. subst⁻¹ (λ z. placed limit P R rule times part X z ≡ true) e
-        (placed-root ∙ both-is (eq-eqb (getD X 0 0) 0 (c .adds .root)) (le-leb (getD X 0 0) limit (omega (arith, c .adds .root)))))
+        (placed-root ∙ both-is (eq-eqb (getD X 0 0) 0 (c .adds .root))
+        (le-leb (getD X 0 0) limit (omega (arith, c .adds .root)))))
         (λ ne.
         let a : 0 < v = omega arith in
-        placed-node v a ∙ both-is (eq-eqb (getD X v 0) _ (c .adds .at v a l)) (le-leb (getD X v 0) limit (c .within v l)))
+        placed-node v a
+        ∙ both-is (eq-eqb (getD X v 0) _ (c .adds .at v a l)) (le-leb (getD X v 0) limit (c .within v l)))
 
     placed-coordinate : 0 < length P → length X ≡ length P
-        → ((v : ℕ) → v < length P → placed limit P R rule times part X v ≡ true) → Coordinate limit P R rule times part X
+        → ((v : ℕ) → v < length P → placed limit P R rule times part X v ≡ true)
+        → Coordinate limit P R rule times part X
     placed-coordinate n long all =
         let root = both (eqb (getD X 0 0) 0) (leb (getD X 0 0) limit) (sym placed-root ∙ all 0 n) in
         let zero : getD X 0 0 ≡ 0 = eqb-true (getD X 0 0) 0 (root .0) in
@@ -124,7 +128,8 @@ module _ (limit : ℕ) (P R : List ℕ) (rule : Rule) where
         && (placed limit P R rule (s .times) acrossOf (s .x) v && placed limit P R rule (s .times) upOf (s .y) v)
     unfolding nodeFits
     fits-node v a =
-        ap (λ b. b && (placed limit P R rule (s .times) acrossOf (s .x) v && placed limit P R rule (s .times) upOf (s .y) v))
+        ap (λ b. b && (placed limit P R rule (s .times) acrossOf (s .x) v
+        && placed limit P R rule (s .times) upOf (s .y) v))
         (cond-node _ _ v a)
 
     pub drawn-fits : Drawn limit P R rule s → (v : ℕ) → v < length P → nodeFits limit P R rule s v ≡ true
@@ -132,13 +137,15 @@ module _ (limit : ℕ) (P R : List ℕ) (rule : Rule) where
     drawn-fits d v l =
         by-eq v 0
         (λ e. subst⁻¹ (λ z. nodeFits limit P R rule s z ≡ true) e
-        (fits-root ∙ both-is (eq-eqb (getD (s .times) 0 0) 1 (d .root-once)) (subst (λ z. bothPlaced z ≡ true) e there)))
+        (fits-root ∙ both-is (eq-eqb (getD (s .times) 0 0) 1 (d .root-once))
+        (subst (λ z. bothPlaced z ≡ true) e there)))
         (λ ne. fits-node v (omega arith) ∙ both-is (le-leb 1 (getD (s .times) v 0) (d .some v l)) there)
       where
         there : bothPlaced v ≡ true
-        there = both-is (coordinate-placed (s .times) acrossOf (s .x) (d .x) v l) (coordinate-placed (s .times) upOf (s .y) (d .y) v l)
+        there = both-is (coordinate-placed (s .times) acrossOf (s .x) (d .x) v l)
+            (coordinate-placed (s .times) upOf (s .y) (d .y) v l)
 
-    pub fits-drawn : 0 < length P → allLong (length P) (lists s) ≡ true
+    pub fits-drawn : 0 < length P → lengthsFit P s ≡ true
         → ((v : ℕ) → v < length P → nodeFits limit P R rule s v ≡ true) → Drawn limit P R rule s
     unfolding bothPlaced
     fits-drawn n long all =
@@ -160,7 +167,8 @@ module _ (limit : ℕ) (P R : List ℕ) (rule : Rule) where
         node v a l = both _ _ (sym (fits-node v a) ∙ all v l)
 
         there : (v : ℕ) → v < length P
-            → (placed limit P R rule (s .times) acrossOf (s .x) v ≡ true) × (placed limit P R rule (s .times) upOf (s .y) v ≡ true)
+            → (placed limit P R rule (s .times) acrossOf (s .x) v ≡ true)
+            × (placed limit P R rule (s .times) upOf (s .y) v ≡ true)
         there v l =
             both _ _
             (by-eq v 0 (λ e. subst⁻¹ (λ z. bothPlaced z ≡ true) e (root .1)) (λ ne. node v (omega arith) l .1))
@@ -191,6 +199,7 @@ largest-found [] = inl refl
 largest-found (a ∷ l) =
     by-lt a (largest l)
     (λ h. ⊎-elim (λ e. inl (omega arith))
-    (λ (f : (k : ℕ) × (k < length l) × (getD l k 0 ≡ largest l)). inr (suc (f .0), omega (arith, f .1), omega (arith, f .2)))
+    (λ (f : (k : ℕ) × (k < length l) × (getD l k 0 ≡ largest l)).
+    inr (suc (f .0), omega (arith, f .1), omega (arith, f .2)))
     (largest-found l))
     (λ h. inr (0, omega arith, omega arith))

@@ -20,8 +20,8 @@ use Rattle.slopes.specs.declared.Rule.{Rule}
 use Rattle.slopes.specs.declared.Rule.the-variants.{Steep, Balanced}
 use Rattle.slopes.specs.declared.Slope.{Slope}
 use Rattle.slopes.specs.SlopeLaws.{levelsFor-least, acrossBound, upBound, across-sum, up-sum}
-use Rattle.slopes.specs.Slopes.{acrossOf, upOf, levelsFor, slopeAt}
-use Rattle.drawing.specs.Drawing.{edge, pathSum, freshPlaces, fresh}
+use Rattle.slopes.specs.Slopes.{acrossOf, upOf, levelsFor, slopeAt, edge}
+use Rattle.drawing.specs.Drawing.{pathSum, freshPlaces, fresh}
 use Rattle.drawing.specs.DrawingLaws.{Coordinate, Drawn}
 use Rattle.drawing.specs.PathLaws.{adds-cong, path-adds, path-cong, path-bound}
 
@@ -39,7 +39,8 @@ module _ {P R : List ℕ} (tree : Tree P R) (rule : Rule) (part : Slope → ℕ)
       omega (arith, getD-tabulate (length P) (pathSum P (λ z. part (edge P R rule z))) v l, path-bound tree step v l)
 
 pub fresh-bounds : {P R : List ℕ} → Tree P R → (rule : Rule) (v : ℕ) → v < length P
-    → (getD (fresh P R rule .x) v 0 ≤ acrossBound rule (length P)) × (getD (fresh P R rule .y) v 0 ≤ upBound rule (length P))
+    → (getD (fresh P R rule .x) v 0 ≤ acrossBound rule (length P))
+    × (getD (fresh P R rule .y) v 0 ≤ upBound rule (length P))
 unfolding fresh
 fresh-bounds {P} tree rule v l = (
   omega (arith, fresh-sum tree rule acrossOf v l, across-sum rule (length P) (tree .some)),

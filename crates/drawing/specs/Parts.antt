@@ -3,6 +3,7 @@
 --   by longer a d          == a and d more, or d less
 --   placedFrom limit X p v step == v's place is that of p and `step` more, and within the limit
 --   rootFits s             == the root has times 1 and place (0, 0)
+--   misfit limit .. v      == refusal 8 applies to v
 --   NumberedTree P R W     == P and R are an accepted table, and the work list W holds its post-order numbers
 --   Prepared L .. r        == the answer r is refusals 1 to 7 of a call on the drawing s; if none, the table is numbered
 --   Sized P R s W          == the lists of s are as long as the table, which is numbered
@@ -12,7 +13,7 @@
 --   Movable P X v d longer == v's subtree can be moved on, or back, by d
 --   Stretchable ..         == v's edge can be made longer, or shorter
 --   Stretched .. t r       == the drawing t with that edge, and its frame r
-use mathlib.Core.Bool.{Bool, true, false, _&&_}
+use mathlib.Core.Bool.{Bool, true, false, not, _&&_}
 use mathlib.Core.List.{List}
 use mathlib.Core.Path.{_≡_}
 use Prim.Native.Nat.{ℕ, _+_, _-_, _*_, _^_, _≤_, _<_}
@@ -22,13 +23,14 @@ use Rattle.table.specs.declared.Limits.{Limits}
 use Rattle.table.specs.declared.Validity.{Validity}
 use Rattle.table.specs.declared.Validity.the-variants.{Accepted}
 use Rattle.table.specs.Numbering.{Numbered}
-use Rattle.table.specs.Table.{under, allLong, tableFault, validity}
+use Rattle.table.specs.Table.{under, tableFault, Spared}
+use Rattle.table.specs.Acceptance.{validity}
 use Rattle.table.specs.TableLaws.{Tree}
 use Rattle.slopes.specs.declared.Rule.{Rule}
 use Rattle.slopes.specs.SlopeLaws.{acrossBound, upBound}
-use Rattle.slopes.specs.Slopes.{acrossOf, upOf}
+use Rattle.slopes.specs.Slopes.{acrossOf, upOf, edge}
 use Rattle.drawing.specs.declared.Framed.{Framed}
-use Rattle.drawing.specs.Drawing.{Drawing, lists, edge, frame, stretched, drawingFault, Spared}
+use Rattle.drawing.specs.Drawing.{Drawing, lengthsFit, frame, nodeFits, stretched, drawingFault}
 
 abbrev pub by : Bool → ℕ → ℕ → ℕ
 by true a d = a + d
@@ -40,14 +42,17 @@ placedFrom limit X p v step = eqb (getD X v 0) (getD X p 0 + step) && leb (getD 
 abbrev pub rootFits : Drawing → Bool
 rootFits s = eqb (getD (s .times) 0 0) 1 && (eqb (getD (s .x) 0 0) 0 && eqb (getD (s .y) 0 0) 0)
 
+abbrev pub misfit : ℕ → List ℕ → List ℕ → Rule → Drawing → ℕ → Bool
+misfit limit P R rule s v = not (nodeFits limit P R rule s v)
+
 pub record NumberedTree (P R W : List ℕ) : Type 0 where
   pub tree : Tree P R
   pub few : length P < 2 ^ 32
   pub numbers : Numbered P R W
 
 pub record Prepared (L : Limits) (P R : List ℕ) (s : Drawing) (W X : List ℕ) (r : Validity) : Type 0 where
-  pub answer : r ≡ validity (tableFault L P R (allLong (length P) (lists s)) (length W))
-  pub spared : Spared L P R s W X
+  pub answer : r ≡ validity (tableFault L P R (lengthsFit P s) (length W))
+  pub spared : Spared L P R (lengthsFit P s) W X
   pub numbered : r ≡ Accepted → NumberedTree P R X
 
 pub record Sized (P R : List ℕ) (s : Drawing) (W : List ℕ) : Type 0 where
@@ -61,9 +66,10 @@ pub record Blank (P R : List ℕ) (rule : Rule) (s : Drawing) (W : List ℕ) : T
   pub wide : acrossBound rule (length P) < 2 ^ 32
   pub tall : upBound rule (length P) < 2 ^ 32
 
-pub record Checked (L : Limits) (P R : List ℕ) (rule : Rule) (s : Drawing) (W : List ℕ) (v : ℕ) (X : List ℕ) (r : Validity) : Type 0 where
+pub record Checked (L : Limits) (P R : List ℕ) (rule : Rule) (s : Drawing) (W : List ℕ) (v : ℕ) (X : List ℕ)
+    (r : Validity) : Type 0 where
   pub answer : r ≡ validity (drawingFault L P R rule s (length W) v)
-  pub spared : Spared L P R s W X
+  pub spared : Spared L P R (lengthsFit P s) W X
   pub sized : r ≡ Accepted → Sized P R s X
 
 pub record Passes (limit : ℕ) (P X : List ℕ) (v d : ℕ) (r : Bool) : Type 0 where
@@ -85,6 +91,7 @@ pub record Stretchable (P R : List ℕ) (rule : Rule) (s : Drawing) (W : List �
   pub x : Movable P (s .x) v (c * acrossOf (edge P R rule v)) longer
   pub y : Movable P (s .y) v (c * upOf (edge P R rule v)) longer
 
-pub record Stretched (P R : List ℕ) (rule : Rule) (s : Drawing) (v c : ℕ) (longer : Bool) (t : Drawing) (r : Framed) : Type 0 where
+pub record Stretched (P R : List ℕ) (rule : Rule) (s : Drawing) (v c : ℕ) (longer : Bool) (t : Drawing)
+    (r : Framed) : Type 0 where
   pub drawing : t ≡ stretched (by longer) P R rule s v c
   pub answer : r ≡ frame t

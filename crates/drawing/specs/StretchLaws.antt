@@ -1,5 +1,6 @@
 -- Lengthen and shorten as one move: the longer drawing has d more at every place of v's subtree, and c more times at v.
 --
+--   longer, shorter .. s v c == the drawing that lengthen, or shorten, makes of s
 --   offset P v d z          == what v's subtree is moved by, at z: d in the subtree, 0 outside
 --   Moved P v d X Y         == Y is the coordinate X with v's subtree moved on by d
 --   Stretch P R rule v c s t == t is the drawing s with v's edge c times its slope longer
@@ -22,10 +23,16 @@ use Rattle.table.specs.Table.{parent, under, postNumber}
 use Rattle.table.specs.TableLaws.{Tree}
 use Rattle.slopes.specs.declared.Rule.{Rule}
 use Rattle.slopes.specs.declared.Slope.{Slope}
-use Rattle.slopes.specs.Slopes.{acrossOf, upOf}
-use Rattle.drawing.specs.Drawing.{Drawing, edge, moved, stretched, longer, shorter}
+use Rattle.slopes.specs.Slopes.{acrossOf, upOf, edge}
+use Rattle.drawing.specs.Drawing.{Drawing, moved, stretched}
 use Rattle.drawing.specs.DrawingLaws.{stepOf, Coordinate, Drawn}
 use Rattle.drawing.specs.PathLaws.{Adds, adds-under}
+
+abbrev pub longer : List ℕ → List ℕ → Rule → Drawing → ℕ → ℕ → Drawing
+longer = stretched _+_
+
+abbrev pub shorter : List ℕ → List ℕ → Rule → Drawing → ℕ → ℕ → Drawing
+shorter = stretched _-_
 
 ------------------------------------------------------------------------
 -- The subtree's offset
@@ -133,7 +140,8 @@ module _ {P : List ℕ} {v d : ℕ} where
       (λ i h. omega (arith, m .at i (omega (arith, m .from-long)), w .at i (omega (arith, m .from-long))))
 
 -- the one coordinate adds up its steps exactly when the other adds up the steps with d more at v
-module _ {P R : List ℕ} (tree : Tree P R) {v d : ℕ} (av : 0 < v) (lv : v < length P) {X Y : List ℕ} (m : Moved P v d X Y)
+module _ {P R : List ℕ} (tree : Tree P R) {v d : ℕ} (av : 0 < v) (lv : v < length P) {X Y : List ℕ}
+    (m : Moved P v d X Y)
     (g h : ℕ → ℕ) (here : h v ≡ g v + d) (other : (z : ℕ) → z < length P → (z ≡ v → ⊥) → h z ≡ g z) where
   balance : (z : ℕ) → 0 < z → z < length P → offset P v d z + g z ≡ offset P v d (parent P z) + h z
   balance z az lz =
@@ -215,7 +223,8 @@ module _ {P R : List ℕ} (tree : Tree P R) {rule : Rule} {limit v c : ℕ} (av 
   pub back-room : {times : List ℕ} {part : Slope → ℕ} {X : List ℕ} → Coordinate limit P R rule times part X
       → c ≤ getD times v 0 → (z : ℕ) → z < length P → under P v z ≡ true → c * part (edge P R rule v) ≤ getD X z 0
   back-room {times} {part} {X} k less z lz t =
-      let low : c * part (edge P R rule v) ≤ getD times v 0 * part (edge P R rule v) = mul-le-mul-right (part (edge P R rule v)) less in
+      let low : c * part (edge P R rule v) ≤ getD times v 0 * part (edge P R rule v) =
+      mul-le-mul-right (part (edge P R rule v)) less in
       omega (arith, adds-under tree (k .adds) v z av lz t)
 
   pub shorter-stretch : {t : Drawing} → Drawn limit P R rule t → c ≤ getD (t .times) v 0
@@ -274,7 +283,8 @@ module _ {P R : List ℕ} (tree : Tree P R) {rule : Rule} {limit v c : ℕ} (av 
     }
 
 -- by no count nothing changes
-pub stretch-0 : {P R : List ℕ} {rule : Rule} {limit v : ℕ} {s : Drawing} → Drawn limit P R rule s → Stretch P R rule v 0 s s
+pub stretch-0 : {P R : List ℕ} {rule : Rule} {limit v : ℕ} {s : Drawing} → Drawn limit P R rule s
+    → Stretch P R rule v 0 s s
 stretch-0 {P} {R} {rule} {v = v} {s} d = record {
   from-long = d .long;
   to-long = d .long;

@@ -6,10 +6,10 @@ use Prim.Native.Nat.{ℕ, zero, suc, _+_, _*_, _-_, _≤_, _<_, zero-le, suc-le-
 use native.Mathlib.Nat.{mul-pos}
 use native.Mathlib.Decide.{decLt}
 use native.Mathlib.Omega.{arith}
-use borrow.Author.Tests.{lt-ltb, le-ltb}
-use lib.Dec.{T, ltb, leb, ltb→lt, lt→ltb, leb→le, le→leb}
-use lib.IntN.{ℤ, pos, negsuc, negℤ, _+ℤ_, _-ℤ_, _*ℤ_, subℕ, *ℤ-zero, *ℤ-negsuc, +ℤ-idl, -ℤ-+ℤ-cancel, +ℤ-invr, +ℤ-comm, negℤ-negℤ, negℤ-+ℤ}
-use lib.Signed.{_<ℤ_, _≤ℤ_, <ℤ-irrefl, clashℤ, leZ-yes, ltZ-yes, ltZ, leZ}
+use borrow.Author.Tests.{le-ltb}
+use lib.Dec.{ltb→lt, lt→ltb, leb→le, le→leb}
+use lib.IntN.{ℤ, pos, negsuc, negℤ, _+ℤ_, _-ℤ_, _*ℤ_, *ℤ-zero, *ℤ-negsuc, +ℤ-comm, negℤ-negℤ, negℤ-+ℤ}
+use lib.Signed.{_<ℤ_, _≤ℤ_, <ℤ-irrefl}
 
 pub at-least : (n : ℕ) → pos 0 ≤ℤ pos n
 at-least n = record { le = le→leb 0 n zero-le }

@@ -6,7 +6,8 @@ use mathlib.Core.List.{List, [], _∷_}
 use mathlib.Core.Bool.{Bool, true, false}
 use Prim.Native.Nat.{ℕ, zero, suc}
 use lib.Dec.{T}
-use lib.IntN.{ℤ, pos, negsuc, negℤ, _+ℤ_, _-ℤ_, _*ℤ_, +ℤ-idl, +ℤ-idr, +ℤ-assoc, +ℤ-comm, zero-*ℤ, *ℤ-zero, *ℤ-comm, +ℤ-invl, -ℤ-+ℤ-cancel, one, *ℤ-one, *ℤ-negsuc}
+use lib.IntN.{ℤ, pos, negsuc, negℤ, _+ℤ_, _-ℤ_, _*ℤ_, +ℤ-idl, +ℤ-idr, +ℤ-assoc, +ℤ-comm, *ℤ-zero, *ℤ-comm}
+use lib.IntN.{one, -ℤ-+ℤ-cancel, *ℤ-one, *ℤ-negsuc}
 use Rattle.laws.specs.RingLaws.{swapʳ, distʳ, distˡ, *-assoc}
 
 ------------------------------------------------------------------------

@@ -13,7 +13,7 @@ use native.Mathlib.Omega.{arith}
 use lib.Dec.{ltb, eqb}
 use borrow.Author.Tests.{lt-ltb, eqb-true, eq-eqb, ne-eqb}
 use Rattle.laws.specs.Search.{bit, count}
-use Rattle.laws.specs.SearchLaws.{bit-le, count-none, count-some}
+use Rattle.laws.specs.SearchLaws.{count-none, count-some}
 use Rattle.laws.specs.Tests.{by-test, by-eq}
 
 ------------------------------------------------------------------------

@@ -1,19 +1,18 @@
 -- A list of calls, made one after the other: the drawing at hand is what the run of the calls made so far leaves.
 use mathlib.Core.Bool.{Bool, cond}
-use mathlib.Core.List.{List, [], _∷_, _++_}
-use mathlib.Core.Path.{_≡_, refl, sym, ap, subst, subst⁻¹, _∙_}
-use Prim.Native.Nat.{ℕ, zero, suc, _+_, _≤_, _<_}
+use mathlib.Core.List.{List}
+use mathlib.Core.Path.{_≡_, refl, sym, ap, _∙_}
+use Prim.Native.Nat.{ℕ, _+_, _≤_, _<_}
 use native.Mathlib.Numerals.{add-one}
 use native.Mathlib.Omega.{arith}
-use lib.Dec.{eqb}
 use lib.ListN.{length, getD}
 use borrow.Author.Tests.{eq-eqb, ne-eqb}
 use Rattle.table.specs.declared.Limits.{Limits}
 use Rattle.slopes.specs.declared.Rule.{Rule}
 use Rattle.drawing.specs.declared.Framed.{Framed}
 use Rattle.drawing.specs.declared.Framed.the-variants.{Frame, Refused}
-use Rattle.drawing.specs.Drawing.{Drawing, Outcome, layout, Laid, Lengthened, Shortened}
-use Rattle.lineage.specs.Claim.{Call, Lengthen, Shorten, accepted, make, run}
+use Rattle.drawing.specs.Drawing.{Drawing, Outcome, Laid, Lengthened, Shortened}
+use Rattle.lineage.specs.Claim.{Lengthen, Shorten, accepted, make, run}
 use Rattle.lineage.specs.Replay.{callOf, callsTo, after, run-last, Replayed}
 
 module _ {L : Limits} {P R : List ℕ} {rule : Rule} {s : Drawing} {W : List ℕ} {v c : ℕ} {t : Drawing} {X : List ℕ}

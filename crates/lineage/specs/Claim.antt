@@ -1,12 +1,12 @@
 -- The claim over lists of calls (demand 3; document 01, "Lists of calls"), as one type.
 --
---   Call                    == a lengthen or a shorten: a node, a count, and the length of the work list; each may be anything
+--   Call                    == a lengthen or a shorten: a node, a count and the length of the work list, each of them anything
 --   make .. s call          == the outcome of the call on the drawing s
 --   run .. s calls          == the drawing after the list, each call made on what the one before left
 --   added, taken .. z       == the sum of the counts of the accepted lengthens, and shortens, of z in the list
 --   lengthOf .. z           == 1 + added - taken
 --   Assured ..              == all that is said of the drawing t that a list of calls leaves
---   Claim L                 == it is so for every accepted table, both rules and every list of calls, drawn at the limits L
+--   Claim L                 == it is so for every accepted table, both rules and every list of calls, at the limits L
 use mathlib.Core.Bool.{Bool, true, false, cond}
 use mathlib.Core.List.{List, [], _∷_}
 use mathlib.Core.Logic.{_≢_}
@@ -19,10 +19,10 @@ use Rattle.table.specs.declared.Limits.{Limits}
 use Rattle.table.specs.Paths.{PathRises, SharePoint, CommonEnd}
 use Rattle.table.specs.Table.{parent, large, checked}
 use Rattle.slopes.specs.declared.Rule.{Rule}
-use Rattle.slopes.specs.Slopes.{acrossOf, upOf}
+use Rattle.slopes.specs.Slopes.{acrossOf, upOf, edge}
 use Rattle.drawing.specs.declared.Framed.{Framed}
 use Rattle.drawing.specs.declared.Framed.the-variants.{Frame, Refused}
-use Rattle.drawing.specs.Drawing.{Drawing, Outcome, edge, pathSum, layout, lengthen, shorten}
+use Rattle.drawing.specs.Drawing.{Drawing, Outcome, pathSum, layout, lengthen, shorten}
 use Rattle.direction.specs.declared.Heading.the-variants.{Along}
 use Rattle.direction.specs.Direction.{direction}
 use Rattle.monotone.specs.declared.Verdict.{Verdict}
@@ -49,6 +49,7 @@ unfoldable pub takes : Call → ℕ → ℕ
 takes (Lengthen v c work) z = 0
 takes (Shorten v c work) z = cond (eqb v z) c 0
 
+-- with the limits L, on the table P and R under the rule
 module _ (L : Limits) (P R : List ℕ) (rule : Rule) where
   unfoldable pub make : Drawing → Call → Outcome
   make s (Lengthen v c work) = lengthen L P R rule s work v c
@@ -69,32 +70,33 @@ module _ (L : Limits) (P R : List ℕ) (rule : Rule) where
   unfoldable pub taken : Drawing → List Call → ℕ → ℕ
   taken = total takes
 
+  -- how many times its slope the edge of z is to be long
+  abbrev pub lengthOf : Drawing → List Call → ℕ → ℕ
+  lengthOf s calls z = 1 + added s calls z - taken s calls z
+
+  -- what is said of the drawing t that the calls leave of s
+  pub record Assured (s : Drawing) (calls : List Call) (t : Drawing) : Type 0 where
+    -- for any two different nodes the direction call gives a direction along which every edge of their path rises
+    pub directions : (u v : ℕ) → u < length P → v < length P → u ≢ v
+        → (d e : ℤ) × (direction large P R rule (4 * length P) u v ≡ Along d e) × PathRises P (t .x) (t .y) d e u v
+    -- no two edges share a point other than a node at which both end
+    pub no-crossing : (v w m i j : ℕ) → 1 ≤ v → v < length P → 1 ≤ w → w < length P → v ≢ w
+        → SharePoint (t .x) (t .y) (parent P v) v (parent P w) w m i j
+        → CommonEnd (t .x) (t .y) (parent P v) v (parent P w) w m i
+    -- no place is beyond the limit
+    pub within : (v : ℕ) → v < length P → (getD (t .x) v 0 ≤ L .place) × (getD (t .y) v 0 ≤ L .place)
+    -- every place is the sum along its path, and no more is taken than was added
+    pub taken-least : (v : ℕ) → 1 ≤ v → v < length P → taken s calls v ≤ added s calls v
+    pub places-x : (v : ℕ) → v < length P
+        → getD (t .x) v 0 ≡ pathSum P (λ z. acrossOf (edge P R rule z) * lengthOf s calls z) v
+    pub places-y : (v : ℕ) → v < length P
+        → getD (t .y) v 0 ≡ pathSum P (λ z. upOf (edge P R rule z) * lengthOf s calls z) v
+    -- up to 4,096 nodes, whatever the check answers is Monotone
+    pub check : length P ≤ checked .nodes → (r : Verdict)
+        → Says checked P R (t .x) (t .y) (4 * length P) r → r ≡ Monotone
+
 ------------------------------------------------------------------------
 -- The claim
-
--- how many times its slope the edge of z is to be long
-abbrev pub lengthOf : Limits → List ℕ → List ℕ → Rule → Drawing → List Call → ℕ → ℕ
-lengthOf L P R rule s calls z = 1 + added L P R rule s calls z - taken L P R rule s calls z
-
-pub record Assured (L : Limits) (P R : List ℕ) (rule : Rule) (s : Drawing) (calls : List Call) (t : Drawing) : Type
-    0 where
-  -- for any two different nodes the direction call gives a direction along which every edge of their path rises
-  pub directions : (u v : ℕ) → u < length P → v < length P → u ≢ v
-      → (d e : ℤ) × (direction large P R rule (4 * length P) u v ≡ Along d e) × PathRises P (t .x) (t .y) d e u v
-  -- no two edges share a point other than a node at which both end
-  pub no-crossing : (v w m i j : ℕ) → 1 ≤ v → v < length P → 1 ≤ w → w < length P → v ≢ w
-      → SharePoint (t .x) (t .y) (parent P v) v (parent P w) w m i j
-      → CommonEnd (t .x) (t .y) (parent P v) v (parent P w) w m i
-  -- no place is beyond the limit
-  pub within : (v : ℕ) → v < length P → (getD (t .x) v 0 ≤ L .place) × (getD (t .y) v 0 ≤ L .place)
-  -- every place is the sum along its path, and no more is taken than was added
-  pub taken-least : (v : ℕ) → 1 ≤ v → v < length P → taken L P R rule s calls v ≤ added L P R rule s calls v
-  pub places-x : (v : ℕ) → v < length P
-      → getD (t .x) v 0 ≡ pathSum P (λ z. acrossOf (edge P R rule z) * lengthOf L P R rule s calls z) v
-  pub places-y : (v : ℕ) → v < length P
-      → getD (t .y) v 0 ≡ pathSum P (λ z. upOf (edge P R rule z) * lengthOf L P R rule s calls z) v
-  -- up to 4,096 nodes, whatever the check answers is Monotone
-  pub check : length P ≤ checked .nodes → (r : Verdict) → Says checked P R (t .x) (t .y) (4 * length P) r → r ≡ Monotone
 
 unfoldable pub Claim : Limits → Type 0
 Claim L = (P R : List ℕ) (rule : Rule) (old : Drawing) (work w h : ℕ) (s : Drawing)

@@ -5,42 +5,41 @@
 --   demand-3    == the claim at the large limits
 use mathlib.Core.Bool.{Bool, true, false, cond}
 use mathlib.Core.List.{List, [], _∷_}
-use mathlib.Core.Logic.{_⊎_, inl, inr, ⊎-elim, _≢_}
-use mathlib.Core.Option.{Option, none, some}
-use mathlib.Core.Path.{_≡_, refl, sym, ap, subst, subst⁻¹, _∙_}
-use Prim.Native.Nat.{ℕ, _+_, _-_, _*_, _≤_, _<_}
+use mathlib.Core.Logic.{⊎-elim, _≢_}
+use mathlib.Core.Option.{none, some}
+use mathlib.Core.Path.{_≡_, refl, sym, ap, subst⁻¹, _∙_}
+use Prim.Native.Nat.{ℕ, _+_, _*_, _≤_, _<_}
 use native.Mathlib.Nat.{mul-comm}
 use native.Mathlib.Omega.{arith}
-use lib.Dec.{ltb, eqb}
+use lib.Dec.{eqb}
 use lib.IntN.{ℤ}
 use lib.ListN.{length, getD}
-use borrow.Author.Tests.{eqb-true, eqb-false, eq-eqb, ne-eqb, le-ltb}
+use borrow.Author.Tests.{eq-eqb, ne-eqb, le-ltb}
 use Rattle.laws.specs.Refusals.{some-not-none, orElse-second, orElse-none, refuseLeast-no}
-use Rattle.laws.specs.Search.{least, Refusal}
 use Rattle.laws.specs.SearchLaws.{least-is}
 use Rattle.laws.specs.Tests.{by-eq, neither-is}
-use Rattle.table.specs.Acceptance.{Shape, shape-fits, Accepting, accepting}
+use Rattle.table.specs.Acceptance.{shape-fits, accepting}
 use Rattle.table.specs.declared.Limits.{Limits}
-use Rattle.table.specs.Paths.{PathRises, SharePoint, CommonEnd}
-use Rattle.table.specs.Table.{parent, allLong, shapeFault, treeFault, tableFault, large, checked}
+use Rattle.table.specs.Paths.{PathRises}
+use Rattle.table.specs.Table.{allLong, shapeFault, treeFault, tableFault, large, checked}
 use Rattle.table.specs.TableLaws.{Tree}
 use Rattle.slopes.specs.declared.Rule.{Rule}
 use Rattle.slopes.specs.declared.Slope.{Slope}
-use Rattle.slopes.specs.Slopes.{acrossOf, upOf}
+use Rattle.slopes.specs.Slopes.{acrossOf, upOf, edge}
 use Rattle.drawing.specs.CallLaws.{settled, Untouched, Stretching, layout-drawn, lengthen-does, shorten-does}
-use Rattle.drawing.specs.declared.Framed.{Framed}
 use Rattle.drawing.specs.declared.Framed.the-variants.{Frame, Refused}
-use Rattle.drawing.specs.Drawing.{Drawing, Outcome, lists, edge, frame, pathSum, fresh, layout, lengthen, shorten}
+use Rattle.drawing.specs.Drawing.{Drawing, lengthsFit, frame, pathSum, fresh, layout, lengthen, shorten}
 use Rattle.drawing.specs.DrawingLaws.{Coordinate, Drawn, stepOf}
 use Rattle.drawing.specs.FreshLaws.{Roomy, large-roomy, fresh-once}
-use Rattle.drawing.specs.PathLaws.{Adds, adds-path, path-cong}
+use Rattle.drawing.specs.PathLaws.{adds-path, path-cong}
 use Rattle.direction.specs.declared.Heading.the-variants.{Along}
 use Rattle.direction.specs.Direction.{direction}
 use Rattle.direction.specs.DirectionLaws.{direction-rises, edges-apart}
 use Rattle.monotone.specs.declared.Verdict.{Verdict}
 use Rattle.monotone.specs.declared.Verdict.the-variants.{Monotone, Turns}
-use Rattle.monotone.specs.Monotone.{HasDirection, beyond, checkFault, FirstTurn, Says}
-use Rattle.lineage.specs.Claim.{Call, Lengthen, Shorten, accepted, adds, takes, make, run, total, added, taken, lengthOf, Assured, Claim}
+use Rattle.monotone.specs.Monotone.{beyond, checkFault, Says}
+use Rattle.lineage.specs.Claim.{Call, Lengthen, Shorten, accepted, adds, takes, make, run, total, added, taken}
+use Rattle.lineage.specs.Claim.{lengthOf, Assured, Claim}
 
 pub record Fitting (L : Limits) : Type 0 where
   pub roomy : Roomy L
@@ -197,8 +196,7 @@ module _ (L : Limits) (fit : Fitting L) (P R : List ℕ) (rule : Rule) (long : B
       ∙ path-cong tree (stepOf P R rule part (t .times)) (λ z. part (edge P R rule z) * lengthOf L P R rule s calls z)
       (λ z a m. ap (λ (k : ℕ). k * part (edge P R rule z)) (long-as z m) ∙ mul-comm _ _) v l
 
-  stands : Rattle.direction.specs.RisingPaths.Drawn P (Rattle.direction.specs.Direction.edgeSlope P R rule)
-      (λ v. getD (t .times) v 0) (t .x) (t .y)
+  stands : Rattle.direction.specs.RisingPaths.Drawn P (edge P R rule) (λ v. getD (t .times) v 0) (t .x) (t .y)
   unfolding t edge
   stands = record {
     times-from-1 = λ v a l. r .drawn .some v l;
@@ -255,16 +253,16 @@ module _ (L : Limits) (fit : Fitting L) (P R : List ℕ) (rule : Rule) (long : B
 
 layout-fine : (L : Limits) (P R : List ℕ) (rule : Rule) (old : Drawing) (work w h : ℕ) (s : Drawing)
     → layout L P R rule old work ≡ record { answer = Frame w h; drawing = s }
-    → tableFault L P R (allLong (length P) (lists old)) work ≡ none
+    → tableFault L P R (lengthsFit P old) work ≡ none
 unfolding layout
 layout-fine L P R rule old work w h s e =
-    settled old (fresh P R rule) (tableFault L P R (allLong (length P) (lists old)) work) e .0
+    settled old (fresh P R rule) (tableFault L P R (lengthsFit P old) work) e .0
 
 pub claim : (L : Limits) → Fitting L → Claim L
 unfolding Claim
 claim L fit P R rule old work w h s e calls =
     let l = layout-drawn L (fit .roomy) P R rule old work w h s e in
-    assured L fit P R rule (allLong (length P) (lists old)) work (layout-fine L P R rule old work w h s e) (l .0) s
+    assured L fit P R rule (lengthsFit P old) work (layout-fine L P R rule old work w h s e) (l .0) s
     calls
     (ran L P R rule s calls (l .1))
     (λ v b. ap (λ (d : Drawing). getD (d .times) v 0) (sym (l .2)) ∙ fresh-once (l .0) rule v b)

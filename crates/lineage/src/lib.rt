@@ -8,17 +8,16 @@ use monotone::Verdict;
 use slopes::Rule;
 use treefile::Loaded;
 use treefile::Saved;
-ghost use mathlib.Core.List.{[], _∷_};
 ghost use mathlib.Core.Path.{_≡_};
-ghost use Prim.Native.Nat.{_^_, _<_};
 ghost use lib.IntN.{pos};
 ghost use lib.ListN.{length};
 ghost use Rattle.table.specs.Table.{large, checked};
 ghost use Rattle.drawing.specs.Drawing.{lent, Laid, Lengthened, Shortened};
 ghost use Rattle.direction.specs.Direction.{Directed};
-ghost use Rattle.monotone.specs.Monotone.{Says, Untouched};
+ghost use Rattle.monotone.specs.Monotone.{Checked};
 ghost use Rattle.treefile.specs.Bytes.{Read, Wrote};
-ghost use Rattle.lineage.specs.Exports.{ruleOf, three, framedReply, headingReply, verdictReply, loadedReply, savedReply, Short, Exported};
+ghost use Rattle.lineage.specs.Exports.{ruleOf, three, framedReply, headingReply, verdictReply, loadedReply};
+ghost use Rattle.lineage.specs.Exports.{savedReply, Short, Exported};
 
 // The rule that a bool stands for.
 fn rule_of(balanced: bool) -> Rule
@@ -120,7 +119,11 @@ pub extern "C" fn lineage_layout(
     work: &mut [u32],
     reply: &mut [i64],
 ) -> bool
-    ensures { λ b. ⌜ Exported (Laid large (now (parent .entry)) (now (rank .entry)) (ruleOf balanced) (lent (now (times .entry)) (now (x .entry)) (now (y .entry))) (now (work .entry)) (lent (now (times .exit)) (now (x .exit)) (now (y .exit))) (now (work .exit))) framedReply ((lent (now (times .exit)) (now (x .exit)) (now (y .exit)) ≡ lent (now (times .entry)) (now (x .entry)) (now (y .entry))) × (now (work .exit) ≡ now (work .entry))) (now (reply .entry)) (now (reply .exit)) b ⌝ }
+    ensures { λ b. ⌜ Exported (Laid large (now (parent .entry)) (now (rank .entry)) (ruleOf balanced)
+        (lent (now (times .entry)) (now (x .entry)) (now (y .entry))) (now (work .entry))
+        (lent (now (times .exit)) (now (x .exit)) (now (y .exit))) (now (work .exit))) framedReply
+        ((lent (now (times .exit)) (now (x .exit)) (now (y .exit)) ≡ lent (now (times .entry)) (now (x .entry))
+        (now (y .entry))) × (now (work .exit) ≡ now (work .entry))) (now (reply .entry)) (now (reply .exit)) b ⌝ }
 {
     if reply.len() != 3 {
         return false;
@@ -144,7 +147,11 @@ pub extern "C" fn lineage_lengthen(
     count: u32,
     reply: &mut [i64],
 ) -> bool
-    ensures { λ b. ⌜ Exported (Lengthened large (now (parent .entry)) (now (rank .entry)) (ruleOf balanced) (lent (now (times .entry)) (now (x .entry)) (now (y .entry))) (now (work .entry)) lot count (lent (now (times .exit)) (now (x .exit)) (now (y .exit))) (now (work .exit))) framedReply ((lent (now (times .exit)) (now (x .exit)) (now (y .exit)) ≡ lent (now (times .entry)) (now (x .entry)) (now (y .entry))) × (now (work .exit) ≡ now (work .entry))) (now (reply .entry)) (now (reply .exit)) b ⌝ }
+    ensures { λ b. ⌜ Exported (Lengthened large (now (parent .entry)) (now (rank .entry)) (ruleOf balanced)
+        (lent (now (times .entry)) (now (x .entry)) (now (y .entry))) (now (work .entry)) lot count
+        (lent (now (times .exit)) (now (x .exit)) (now (y .exit))) (now (work .exit))) framedReply
+        ((lent (now (times .exit)) (now (x .exit)) (now (y .exit)) ≡ lent (now (times .entry)) (now (x .entry))
+        (now (y .entry))) × (now (work .exit) ≡ now (work .entry))) (now (reply .entry)) (now (reply .exit)) b ⌝ }
 {
     if reply.len() != 3 {
         return false;
@@ -178,7 +185,11 @@ pub extern "C" fn lineage_shorten(
     count: u32,
     reply: &mut [i64],
 ) -> bool
-    ensures { λ b. ⌜ Exported (Shortened large (now (parent .entry)) (now (rank .entry)) (ruleOf balanced) (lent (now (times .entry)) (now (x .entry)) (now (y .entry))) (now (work .entry)) lot count (lent (now (times .exit)) (now (x .exit)) (now (y .exit))) (now (work .exit))) framedReply ((lent (now (times .exit)) (now (x .exit)) (now (y .exit)) ≡ lent (now (times .entry)) (now (x .entry)) (now (y .entry))) × (now (work .exit) ≡ now (work .entry))) (now (reply .entry)) (now (reply .exit)) b ⌝ }
+    ensures { λ b. ⌜ Exported (Shortened large (now (parent .entry)) (now (rank .entry)) (ruleOf balanced)
+        (lent (now (times .entry)) (now (x .entry)) (now (y .entry))) (now (work .entry)) lot count
+        (lent (now (times .exit)) (now (x .exit)) (now (y .exit))) (now (work .exit))) framedReply
+        ((lent (now (times .exit)) (now (x .exit)) (now (y .exit)) ≡ lent (now (times .entry)) (now (x .entry))
+        (now (y .entry))) × (now (work .exit) ≡ now (work .entry))) (now (reply .entry)) (now (reply .exit)) b ⌝ }
 {
     if reply.len() != 3 {
         return false;
@@ -209,7 +220,9 @@ pub extern "C" fn lineage_direction(
     to: u32,
     reply: &mut [i64],
 ) -> bool
-    ensures { λ b. ⌜ Exported (Directed large (now (parent .entry)) (now (rank .entry)) (ruleOf balanced) (now (work .entry)) (now (work .exit)) from to) headingReply (now (work .exit) ≡ now (work .entry)) (now (reply .entry)) (now (reply .exit)) b ⌝ }
+    ensures { λ b. ⌜ Exported (Directed large (now (parent .entry)) (now (rank .entry)) (ruleOf balanced)
+        (now (work .entry)) (now (work .exit)) from to) headingReply (now (work .exit) ≡ now (work .entry))
+        (now (reply .entry)) (now (reply .exit)) b ⌝ }
 {
     if reply.len() != 3 {
         return false;
@@ -230,7 +243,9 @@ pub extern "C" fn lineage_check(
     work: &mut [u32],
     reply: &mut [i64],
 ) -> bool
-    ensures { λ b. ⌜ Exported (λ answer. Says checked (now (parent .entry)) (now (rank .entry)) (now (x .entry)) (now (y .entry)) (length (now (work .entry))) answer × Untouched checked answer (now (work .entry)) (now (work .exit))) verdictReply (now (work .exit) ≡ now (work .entry)) (now (reply .entry)) (now (reply .exit)) b ⌝ }
+    ensures { λ b. ⌜ Exported (Checked checked (now (parent .entry)) (now (rank .entry)) (now (x .entry))
+        (now (y .entry)) (now (work .entry)) (now (work .exit))) verdictReply (now (work .exit) ≡ now (work .entry))
+        (now (reply .entry)) (now (reply .exit)) b ⌝ }
 {
     if reply.len() != 3 {
         return false;
@@ -249,7 +264,10 @@ pub extern "C" fn lineage_read_tree(
     work: &mut [u32],
     reply: &mut [i64],
 ) -> bool
-    ensures { λ b. ⌜ Exported (Read large (now (bytes .entry)) (now (parent .entry)) (now (rank .entry)) (now (work .entry)) (now (parent .exit)) (now (rank .exit)) (now (work .exit))) loadedReply ((now (parent .exit) ≡ now (parent .entry)) × (now (rank .exit) ≡ now (rank .entry)) × (now (work .exit) ≡ now (work .entry))) (now (reply .entry)) (now (reply .exit)) b ⌝ }
+    ensures { λ b. ⌜ Exported (Read large (now (bytes .entry)) (now (parent .entry)) (now (rank .entry))
+        (now (work .entry)) (now (parent .exit)) (now (rank .exit)) (now (work .exit))) loadedReply
+        ((now (parent .exit) ≡ now (parent .entry)) × (now (rank .exit) ≡ now (rank .entry)) × (now (work .exit) ≡ now
+        (work .entry))) (now (reply .entry)) (now (reply .exit)) b ⌝ }
 {
     if reply.len() != 3 {
         return false;
@@ -268,7 +286,10 @@ pub extern "C" fn lineage_write_tree(
     work: &mut [u32],
     reply: &mut [i64],
 ) -> bool
-    ensures { λ b. ⌜ Exported (Wrote large (now (parent .entry)) (now (rank .entry)) (now (bytes .entry)) (now (work .entry)) (now (bytes .exit)) (now (work .exit))) savedReply ((now (bytes .exit) ≡ now (bytes .entry)) × (now (work .exit) ≡ now (work .entry))) (now (reply .entry)) (now (reply .exit)) b ⌝ }
+    ensures { λ b. ⌜ Exported (Wrote large (now (parent .entry)) (now (rank .entry)) (now (bytes .entry))
+        (now (work .entry)) (now (bytes .exit)) (now (work .exit))) savedReply
+        ((now (bytes .exit) ≡ now (bytes .entry)) × (now (work .exit) ≡ now (work .entry))) (now (reply .entry))
+        (now (reply .exit)) b ⌝ }
 {
     if reply.len() != 3 {
         return false;

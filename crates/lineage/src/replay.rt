@@ -22,7 +22,9 @@ fn make_call(
     lot: u32,
     count: u32,
 ) -> Framed
-    ensures { λ _. ⌜ lent (now (times .exit)) (now (x .exit)) (now (y .exit)) ≡ make large (now (parent .entry)) (now (rank .entry)) rule (lent (now (times .entry)) (now (x .entry)) (now (y .entry))) (callOf kind lot count (length (now (work .entry)))) .drawing ⌝ }
+    ensures { λ _. ⌜ lent (now (times .exit)) (now (x .exit)) (now (y .exit)) ≡ make large (now (parent .entry))
+        (now (rank .entry)) rule (lent (now (times .entry)) (now (x .entry)) (now (y .entry)))
+        (callOf kind lot count (length (now (work .entry)))) .drawing ⌝ }
 {
     if kind == 0 {
         return drawing::lengthen(rule, parent, rank, times, x, y, work, lot, count);
@@ -44,7 +46,10 @@ fn make_calls(
     counts: &[u32],
 )
     requires { ⌜ (length (now lots) ≡ length (now kinds)) × (length (now counts) ≡ length (now kinds)) ⌝ }
-    ensures { λ _. ⌜ lent (now (times .exit)) (now (x .exit)) (now (y .exit)) ≡ run large (now (parent .entry)) (now (rank .entry)) rule (lent (now (times .entry)) (now (x .entry)) (now (y .entry))) (callsTo (now (kinds .entry)) (now (lots .entry)) (now (counts .entry)) (length (now (work .entry))) (length (now (kinds .entry)))) ⌝ }
+    ensures { λ _. ⌜ lent (now (times .exit)) (now (x .exit)) (now (y .exit)) ≡ run large (now (parent .entry))
+        (now (rank .entry)) rule (lent (now (times .entry)) (now (x .entry)) (now (y .entry)))
+        (callsTo (now (kinds .entry)) (now (lots .entry)) (now (counts .entry)) (length (now (work .entry)))
+        (length (now (kinds .entry)))) ⌝ }
 {
     let m = kinds.len();
     let mut i = 0;
@@ -72,7 +77,10 @@ pub fn replay(
     counts: &[u32],
 ) -> Framed
     requires { ⌜ (length (now lots) ≡ length (now kinds)) × (length (now counts) ≡ length (now kinds)) ⌝ }
-    ensures { λ r. ⌜ Replayed large (now (parent .entry)) (now (rank .entry)) rule (lent (now (times .entry)) (now (x .entry)) (now (y .entry))) (length (now (work .entry))) (now (kinds .entry)) (now (lots .entry)) (now (counts .entry)) (lent (now (times .exit)) (now (x .exit)) (now (y .exit))) r ⌝ }
+    ensures { λ r. ⌜ Replayed large (now (parent .entry)) (now (rank .entry)) rule
+        (lent (now (times .entry)) (now (x .entry)) (now (y .entry))) (length (now (work .entry)))
+        (now (kinds .entry)) (now (lots .entry)) (now (counts .entry))
+        (lent (now (times .exit)) (now (x .exit)) (now (y .exit))) r ⌝ }
 {
     match drawing::layout(rule, parent, rank, times, x, y, work) {
         Framed::Refused(number, lot) => Framed::Refused(number, lot),

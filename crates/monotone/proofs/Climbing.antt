@@ -15,12 +15,13 @@ use Rattle.table.specs.Table.{parent, under}
 use Rattle.table.specs.TableLaws.{Tree}
 use Rattle.table.specs.Work.{Zeroed}
 use Rattle.monotone.specs.Plane.{Vec}
-use Rattle.monotone.specs.Cones.{Part, Edges, partAt, edgeAt, Holds, any, empty, Formed, Grown}
+use Rattle.monotone.specs.Cones.{Part, Edges, partAt, edgeAt, Holds, empty, Formed, Grown}
 use Rattle.monotone.specs.PathEdges.{OnPath, child-below, path-none, path-up}
-use Rattle.monotone.specs.Rows.{EdgeTurned, TurnedPart, Away, Said, Told, Row, Climbed}
+use Rattle.monotone.specs.Rows.{EdgeTurned, TurnedPart, Away, Said, Told, Climbed}
 use Rattle.monotone.proofs.Growth.{holds-some, formed-one, holds-as}
 use Rattle.monotone.proofs.Stores.{store-here, store-else}
-use Rattle.monotone.proofs.Turning.{TurningPart, Turning, root-below, turning-start, turning-step, turning-kept, turning-end, edge-only}
+use Rattle.monotone.proofs.Turning.{TurningPart, Turning, root-below, turning-start, turning-step}
+use Rattle.monotone.proofs.Turning.{turning-kept, turning-end, edge-only}
 
 ------------------------------------------------------------------------
 -- Stores in the first region leave the edges

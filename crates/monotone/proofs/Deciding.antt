@@ -1,12 +1,12 @@
 -- What the cones of the paths from u say of a drawing: the pair (u, v) has no direction exactly where v's cone is 2. So
 -- the pairs that the loops have passed all have one.
-use mathlib.Core.Bool.{Bool, true, false, cond}
-use mathlib.Core.List.{List, []}
-use mathlib.Core.Logic.{_⊎_, inl, inr, ⊎-elim}
-use mathlib.Core.Path.{_≡_, refl, sym, ap, subst, subst⁻¹, _∙_}
+use mathlib.Core.Bool.{true, false}
+use mathlib.Core.List.{List}
+use mathlib.Core.Logic.{inl, inr, ⊎-elim}
+use mathlib.Core.Path.{_≡_, subst, subst⁻¹}
 use Prim.Native.Nat.{ℕ, _+_, _*_, _≤_, _<_}
 use native.Mathlib.Omega.{arith}
-use lib.IntN.{ℤ, pos, negℤ, _-ℤ_}
+use lib.IntN.{pos, negℤ, _-ℤ_}
 use lib.ListN.{length, getD}
 use Rattle.laws.specs.Differences.{IsDiff, recast, diff-pos, diff-neg, diff-add, diff-eq}
 use Rattle.laws.specs.Regions.{Only}
@@ -16,10 +16,11 @@ use Rattle.table.specs.Table.{parent, under}
 use Rattle.table.specs.TableLaws.{Tree}
 use Rattle.monotone.specs.declared.Verdict.{Verdict}
 use Rattle.monotone.specs.declared.Verdict.the-variants.{Monotone}
-use Rattle.monotone.specs.Monotone.{HasDirection, Before, AllDirected, FirstTurn}
-use Rattle.monotone.specs.Plane.{Vec, HasHalfPlane, cone-open}
+use Rattle.monotone.specs.Monotone.{HasDirection, AllDirected, FirstTurn}
+use Rattle.monotone.specs.MonotoneLaws.{Before}
+use Rattle.monotone.specs.Plane.{HasHalfPlane, cone-open}
 use Rattle.monotone.specs.Cones.{partAt, edgeAt, Holds, any, empty, shut, wide}
-use Rattle.monotone.specs.PathEdges.{OnPath, hop, away, has-direction, has-half-plane}
+use Rattle.monotone.specs.PathEdges.{away, has-direction, has-half-plane}
 use Rattle.monotone.specs.Rows.{TurnedPart, Away, Said, Coned, DrawnPart, Drawn}
 
 ------------------------------------------------------------------------

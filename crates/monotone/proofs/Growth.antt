@@ -1,14 +1,14 @@
 -- A cone with one edge more, in each case that `grow` tells apart.
 use mathlib.Core.Bool.{Bool, true}
 use mathlib.Core.Path.{_≡_, refl, sym, subst, subst⁻¹, subst₂, subst₃}
-use mathlib.Core.List.{List, [], _∷_}
+use mathlib.Core.List.{List, _∷_}
 use Prim.Native.Nat.{ℕ, _+_, _*_, _/_, _%_, _≤_, _<_}
 use native.Mathlib.Omega.{arith}
-use lib.IntN.{ℤ, pos}
 use Rattle.monotone.specs.declared.Move.{Move}
 use Rattle.monotone.specs.declared.Move.the-variants.{Keep, High, Low, Never}
-use Rattle.monotone.specs.Plane.{Vec, Cone, HasHalfPlane, cone-first, zero-none, none-more}
-use Rattle.monotone.specs.Cones.{edgeAt, Moved, Pair, Holds, empty, shut, wide, Formed, Alone, none, one, Growing, Grown}
+use Rattle.monotone.specs.Plane.{Vec, Cone, cone-first, zero-none, none-more}
+use Rattle.monotone.specs.Cones.{edgeAt, Moved, Pair, Holds, empty, shut, wide, Formed, Alone, none, one}
+use Rattle.monotone.specs.Cones.{Growing, Grown}
 
 ------------------------------------------------------------------------
 -- Pairs

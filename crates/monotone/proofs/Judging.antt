@@ -1,31 +1,29 @@
 -- From the refusals to the pairs: what an accepted table and its places give, and what each answer of the check says.
-use mathlib.Core.Bool.{Bool, true, false, not, _&&_}
+use mathlib.Core.Bool.{Bool, true}
 use mathlib.Core.List.{List, [], _∷_}
-use mathlib.Core.Logic.{_⊎_, ⊎-elim}
-use mathlib.Core.Option.{Option, none, some}
+use mathlib.Core.Option.{none, some}
 use mathlib.Core.Path.{_≡_, refl, sym, ap, subst, subst⁻¹, _∙_}
-use Prim.Native.Nat.{ℕ, _+_, _*_, _^_, _≤_, _<_}
+use Prim.Native.Nat.{ℕ, _+_, _*_, _≤_, _<_}
 use native.Mathlib.Omega.{arith}
-use lib.Dec.{ltb, eqb}
+use lib.Dec.{eqb}
 use lib.ListN.{length, getD}
 use borrow.Author.Tests.{eqb-true}
-use Rattle.laws.specs.Refusals.{refusal, some-not-none, orElse-first, orElse-second, orElse-none, refuseLeast-yes, refuseLeast-no}
+use Rattle.laws.specs.Refusals.{refusal, some-not-none, orElse-first, orElse-second, orElse-none, refuseLeast-yes}
+use Rattle.laws.specs.Refusals.{refuseLeast-no}
 use Rattle.laws.specs.Regions.{Only}
-use Rattle.laws.specs.Search.{least, Refusal, refuse, refuseLeast, _orElse_}
+use Rattle.laws.specs.Search.{least, Refusal}
 use Rattle.laws.specs.SearchLaws.{least-none}
 use Rattle.laws.specs.Tests.{both}
-use Rattle.table.specs.Acceptance.{Shape, Accepting, accepting, validity-accepted, validity-refused}
+use Rattle.table.specs.Acceptance.{Accepting, accepting, validity-accepted, validity-refused}
 use Rattle.table.specs.declared.Limits.{Limits}
 use Rattle.table.specs.declared.Validity.the-variants.{Accepted, Refused}
 use Rattle.table.specs.Numbering.{Numbering, Numbered, numbering, number-at}
-use Rattle.table.specs.Table.{parent, rank, order, postNumber, strayParent, badRank, adrift, allLong, checked, shapeFault, treeFault, tableFault, validity}
-use Rattle.table.specs.TableLaws.{Tree}
-use Rattle.table.specs.Work.{Validated, Ready}
+use Rattle.table.specs.Table.{order, postNumber, allLong, shapeFault, tableFault}
+use Rattle.table.specs.Work.{Validated}
 use Rattle.monotone.specs.declared.Verdict.{Verdict}
 use Rattle.monotone.specs.declared.Verdict.the-variants as verdict
-use Rattle.monotone.specs.Monotone.{beyond, checkFault, Says, Untouched}
-use Rattle.monotone.specs.Cones.{Edges}
-use Rattle.monotone.specs.Rows.{WithEdges, Ordered, Coordinate, DrawnPart, Drawn, Found, Judged, Checked}
+use Rattle.monotone.specs.Monotone.{beyond, checkFault, Says, Checked}
+use Rattle.monotone.specs.Rows.{WithEdges, Ordered, DrawnPart, Drawn, Found, Judged}
 use Rattle.monotone.proofs.Places.{both-within, drawn-small}
 
 ------------------------------------------------------------------------
@@ -154,61 +152,3 @@ module _ (x y : List ℕ) {L : Limits} {P R : List ℕ} {long : Bool} {W X : Lis
           across = record { inside = known .tree .inside; long = x-long; within = λ w l. omega (arith, within w l .0) };
           up = record { inside = known .tree .inside; long = y-long; within = λ w l. omega (arith, within w l .1) };
         }
-
-------------------------------------------------------------------------
--- Refusals 1, 14 and 3 spare the work list
-
-abbrev Spares : ℕ → Type 0
-Spares k = (k ≡ 1) ⊎ ((k ≡ 14) ⊎ (k ≡ 3))
-
--- a refusal that has another number
-record Other (o : Option Refusal) : Type 0 where
-  number : (f : Refusal) → o ≡ some f → Spares (f .number) → ⊥
-
-other-refuse : (b : Bool) (k v : ℕ) → (Spares k → ⊥) → Other (refuse b k v)
-other-refuse true k v h = record { number = λ f e s. h (let n : k ≡ f .number = cc in subst⁻¹ Spares n s) }
-other-refuse false k v h = record { number = λ f e s. some-not-none (sym e) }
-
-other-least : (k n : ℕ) (test : ℕ → Bool) → (Spares k → ⊥) → Other (refuseLeast k n test)
-other-least k n test h = other-refuse (ltb (least test n) n) k (least test n) h
-
-other-orElse : {a b : Option Refusal} → Other a → Other b → Other (a orElse b)
-other-orElse {a} {b} p q = by a p
-  where
-    by : (a : Option Refusal) → Other a → Other (a orElse b)
-    by none p = q
-    by (some f) p = p
-
--- the later refusals
-late : (k : ℕ) → 4 ≤ k → (k ≡ 14 → ⊥) → Spares k → ⊥
-late k l h = ⊎-elim (λ e. omega arith) (⊎-elim h (λ e. omega arith))
-
-later-refusals : (P R x y : List ℕ) → Other (treeFault P R orElse refuseLeast 15 (length P) (beyond 2147483647 x y))
-unfolding treeFault
-later-refusals P R x y = other-orElse
-    (other-orElse (other-refuse (not (eqb (parent P 0) 0 && eqb (rank R 0) 0)) 4 0
-    (late 4 (omega arith) (λ e. omega arith)))
-    (other-orElse (other-least 5 (length P) (strayParent P) (late 5 (omega arith) (λ e. omega arith)))
-    (other-orElse (other-least 6 (length P) (badRank P R) (late 6 (omega arith) (λ e. omega arith)))
-    (other-least 7 (length P) (adrift P) (late 7 (omega arith) (λ e. omega arith))))))
-    (other-least 15 (length P) (beyond 2147483647 x y) (late 15 (omega arith) (λ e. omega arith)))
-
--- where those come later, one that spares is among the first
-first-of : {X : Type 0} (a b : Option Refusal) {k v : ℕ} → Other b → a orElse b ≡ refusal k v → Spares k
-    → ((f : Refusal) → a ≡ some f → X) → X
-first-of none b {k} {v} h e s found = absurd (h .number (record { number = k; node = v }) e s)
-first-of (some f) b h e s found = found f refl
-
-regroup : (a b c : Option Refusal) → (a orElse b) orElse c ≡ a orElse (b orElse c)
-regroup none b c = refl
-regroup (some f) b c = refl
-
-pub untouched : {P R x y W X : List ℕ} (r : Verdict) → Checked checked P R x y W X r → Untouched checked r W X
-unfolding Untouched Says checkFault tableFault
-untouched verdict.Monotone c = tt
-untouched (verdict.Turns u v) c = tt
-untouched {P} {R} {x} {y} {W} (verdict.Refused k v) c =
-    let shape = shapeFault checked P R (allLong (length P) (x ∷ y ∷ [])) (length W) in
-    let rest = refuseLeast 15 (length P) (beyond 2147483647 x y) in
-    λ s. first-of shape (treeFault P R orElse rest) (later-refusals P R x y)
-    (sym (regroup shape (treeFault P R) rest) ∙ c .says) s (c .spared)

@@ -1,8 +1,8 @@
 -- Places within the limit, and the edges' parts that they give.
 use mathlib.Core.Bool.{Bool, true, false, _&&_}
 use mathlib.Core.List.{List}
-use mathlib.Core.Path.{_≡_, refl, sym, ap, subst, subst⁻¹, _∙_}
-use Prim.Native.Nat.{ℕ, _+_, _-_, _*_, _≤_, _<_}
+use mathlib.Core.Path.{_≡_, refl, subst⁻¹}
+use Prim.Native.Nat.{ℕ, _+_, _-_, _≤_, _<_}
 use native.Mathlib.Omega.{arith}
 use lib.Dec.{ltb}
 use lib.ListN.{length, getD, set}
@@ -11,7 +11,7 @@ use Rattle.laws.specs.Regions.{Only, only-refl, only-set}
 use Rattle.laws.specs.Tests.{by-eq, differ, either-first, either-second, neither, neither-is}
 use Rattle.table.specs.Table.{parent}
 use Rattle.monotone.specs.Monotone.{beyond}
-use Rattle.monotone.specs.Cones.{Part, Edges}
+use Rattle.monotone.specs.Cones.{Part}
 use Rattle.monotone.specs.Rows.{Coordinate, DrawnPart}
 use Rattle.monotone.proofs.Stores.{store-here, store-else}
 

@@ -5,16 +5,17 @@ use mathlib.Core.List.{List, _∷_}
 use mathlib.Core.Path.{_≡_, refl, sym, ap, subst, subst⁻¹, _∙_}
 use Prim.Native.Nat.{ℕ, _+_, _-_, _*_, _≤_, _<_}
 use native.Mathlib.Omega.{arith}
-use lib.ListN.{length, getD, set}
+use lib.ListN.{length, getD}
 use Rattle.laws.specs.Regions.{Only, only-refl, only-set}
-use Rattle.laws.specs.Tests.{by-eq, by-lt, by-test, differ, false-of}
+use Rattle.laws.specs.Tests.{by-eq, by-lt, by-test, false-of}
 use Rattle.table.specs.Ancestry.{under-root}
 use Rattle.table.specs.Table.{parent, under}
 use Rattle.table.specs.TableLaws.{Tree}
 use Rattle.monotone.specs.Plane.{Vec}
 use Rattle.monotone.specs.Cones.{Part, Edges, edgeAt, any, Grown}
 use Rattle.monotone.specs.PathEdges.{path-down}
-use Rattle.monotone.specs.Rows.{WithEdges, TurnedPart, Away, Turned, Said, Row, Climbed, Reached, Visited, known, grown, Ordered, Coned}
+use Rattle.monotone.specs.Rows.{WithEdges, TurnedPart, Away, Turned, Said, Row, Climbed, Reached, Visited}
+use Rattle.monotone.specs.Rows.{known, grown, Ordered, Coned}
 use Rattle.monotone.proofs.Growth.{holds-formed}
 use Rattle.monotone.proofs.Stores.{store-here, store-else}
 use Rattle.monotone.proofs.Climbing.{edges-kept, vectors-kept, said-some, told-store}

@@ -10,7 +10,7 @@ use mathlib.Core.Bool.{Bool, true, false, cond, not, _&&_, _||_}
 use mathlib.Core.List.{List, [], _∷_}
 use mathlib.Core.Logic.{⊎-elim}
 use mathlib.Core.Option.{Option, none, some}
-use mathlib.Core.Path.{_≡_, refl, sym, ap, subst, subst⁻¹, _∙_}
+use mathlib.Core.Path.{_≡_, refl, subst, subst⁻¹}
 use Prim.Native.Nat.{ℕ, zero, suc, _≤_, _<_}
 use native.Mathlib.Omega.{arith}
 use lib.Dec.{T, ltb}
@@ -23,13 +23,14 @@ use Rattle.laws.specs.SearchLaws.{least-below, least-passes, least-none}
 use Rattle.laws.specs.Signs.{≤≥}
 use Rattle.laws.specs.Tests.{by-test, by-eq, both, both-is, differ, neither}
 use Rattle.table.specs.declared.Limits.{Limits}
-use Rattle.table.specs.Paths.{Rises}
 use Rattle.table.specs.Table.{climb, rise}
 use Rattle.monotone.specs.declared.Verdict.{Verdict}
 use Rattle.monotone.specs.declared.Verdict.the-variants.{Monotone, Turns, Refused}
-use Rattle.monotone.specs.Monotone.{HasDirection, AllDirected, FirstTurn, checkFault, Says}
+use Rattle.monotone.specs.Monotone.{HasDirection, FirstTurn, checkFault, Says}
 use Rattle.monotone.specs.PathEdges.{hop}
-use Rattle.monotone.specs.Plane.{Vec, cross, dot, Ahead, AllAhead, HasHalfPlane, Cone, cone-open, cone-first, zero-none, none-more, high, low, keep-high, keep-low, keep-along, against-low, against-high, against-along}
+use Rattle.monotone.specs.Plane.{Vec, cross, dot, Ahead, AllAhead, HasHalfPlane, Cone, cone-open, cone-first}
+use Rattle.monotone.specs.Plane.{zero-none, none-more, high, low, keep-high, keep-low, keep-along, against-low}
+use Rattle.monotone.specs.Plane.{against-high, against-along}
 
 ------------------------------------------------------------------------
 -- Vectors and half planes

@@ -1,16 +1,17 @@
--- Document 01's examples of the check, and points that are easy to get wrong, computed: one table of cases, one
--- theorem.
+-- Drawings that the check can get wrong, computed: one table of cases, one theorem.
 use mathlib.Core.List.{List, [], _∷_, map}
 use mathlib.Core.Path.{_≡_, refl}
 use Prim.Native.Nat.{ℕ, _*_}
 use lib.ListN.{length}
 use Rattle.laws.specs.Search.{count, least}
-use Rattle.table.specs.Table.{climb, leads, isChild, children, isChildAt, under, rise, strayParent, badRank, adrift, allLong, shapeFault, treeFault, tableFault, checked}
+use Rattle.table.specs.Table.{climb, leads, isChild, children, isChildAt, under, rise, strayParent, badRank, adrift}
+use Rattle.table.specs.Table.{allLong, shapeFault, treeFault, tableFault, checked}
 use Rattle.monotone.specs.declared.Verdict.{Verdict}
 use Rattle.monotone.specs.declared.Verdict.the-variants.{Monotone, Turns, Refused}
 use Rattle.monotone.specs.Monotone.{beyond, checkFault, Says}
 use Rattle.monotone.specs.MonotoneLaws.{says-one}
-use Rattle.monotone.specs.Decision.{widen, span, upward, downward, pathVectors, turnsAt, secondNode, firstNode, decide, decide-says}
+use Rattle.monotone.specs.Decision.{widen, span, upward, downward, pathVectors, turnsAt, secondNode, firstNode}
+use Rattle.monotone.specs.Decision.{decide, decide-says}
 
 pub record Case : Type 0 where
   pub parents : List ℕ
@@ -32,12 +33,8 @@ drawing P R x y r = record { parents = P; ranks = R; x = x; y = y; work = 4 * le
 
 unfoldable pub cases : List Case
 cases =
-    -- the chain that turns, and the straight one
-    drawing (0 ∷ 0 ∷ 1 ∷ 2 ∷ []) (0 ∷ 0 ∷ 0 ∷ 0 ∷ []) (0 ∷ 1 ∷ 1 ∷ 0 ∷ []) (0 ∷ 0 ∷ 1 ∷ 1 ∷ []) (Turns 0 3)
-    ∷ drawing (0 ∷ 0 ∷ 1 ∷ []) (0 ∷ 0 ∷ 0 ∷ []) (0 ∷ 1 ∷ 2 ∷ []) (0 ∷ 0 ∷ 0 ∷ []) Monotone
-    -- two lots at one place; one lot alone
-    ∷ drawing (0 ∷ 0 ∷ []) (0 ∷ 0 ∷ []) (0 ∷ 0 ∷ []) (0 ∷ 0 ∷ []) (Turns 0 1)
-    ∷ drawing (0 ∷ []) (0 ∷ []) (5 ∷ []) (7 ∷ []) Monotone
+    -- one lot alone
+    drawing (0 ∷ []) (0 ∷ []) (5 ∷ []) (7 ∷ []) Monotone
     -- there and back: the edges are opposite
     ∷ drawing (0 ∷ 0 ∷ 1 ∷ []) (0 ∷ 0 ∷ 0 ∷ []) (0 ∷ 2 ∷ 1 ∷ []) (0 ∷ 4 ∷ 2 ∷ []) (Turns 0 2)
     -- a parent above its child

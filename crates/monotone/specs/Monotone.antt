@@ -3,11 +3,10 @@
 --   HasDirection P x y u v    == some whole numbers d and e, negative ones allowed, make every edge of the path rise
 --   beyond place x y v        == refusal 15: x or y of v is above the largest place
 --   checkFault L ..           == refusals 1, 14, 3 to 7, 15 at the limits L
---   Before a b u v            == the pair (a, b) comes before (u, v)
 --   AllDirected P x y         == every pair has a direction. Of pairs the smaller node is first
 --   FirstTurn P x y u v       == (u, v) is the first pair that has none
 --   Says L .. r               == r is what the check answers
---   Untouched L r W X         == the work list, W before and X after, is untouched where r is refusal 1, 14 or 3
+--   Checked L .. W X r        == the check's contract: its answer, and the work list, W at entry and X at exit
 use mathlib.Core.Bool.{Bool, _||_}
 use mathlib.Core.List.{List, [], _∷_}
 use mathlib.Core.Logic.{_⊎_}
@@ -19,7 +18,7 @@ use lib.IntN.{ℤ}
 use lib.ListN.{length, getD}
 use Rattle.laws.specs.Search.{Refusal, refuseLeast, _orElse_}
 use Rattle.table.specs.Paths.{PathRises}
-use Rattle.table.specs.Table.{allLong, tableFault}
+use Rattle.table.specs.Table.{allLong, tableFault, Spared}
 use Rattle.table.specs.declared.Limits.{Limits}
 use Rattle.monotone.specs.declared.Verdict.{Verdict}
 use Rattle.monotone.specs.declared.Verdict.the-variants.{Monotone, Turns, Refused}
@@ -43,10 +42,6 @@ checkFault L P R x y work =
     tableFault L P R (allLong (length P) (x ∷ y ∷ [])) work
     orElse refuseLeast (L .beyond) (length P) (beyond (L .place) x y)
 
--- a smaller first node, then a smaller second
-abbrev pub Before : ℕ → ℕ → ℕ → ℕ → Type 0
-Before a b u v = (a < u) ⊎ ((a ≡ u) × (b < v))
-
 pub record AllDirected (P x y : List ℕ) : Type 0 where
   pub directed : (u v : ℕ) → u < v → v < length P → HasDirection P x y u v
 
@@ -54,7 +49,8 @@ pub record FirstTurn (P x y : List ℕ) (u v : ℕ) : Type 0 where
   pub ordered : u < v
   pub inside : v < length P
   pub turns : ¬ HasDirection P x y u v
-  pub earlier : (a b : ℕ) → a < b → b < length P → Before a b u v → HasDirection P x y a b
+  -- a smaller first node comes first, then a smaller second
+  pub earlier : (a b : ℕ) → a < b → b < length P → (a < u) ⊎ ((a ≡ u) × (b < v)) → HasDirection P x y a b
 
 module _ (L : Limits) (P R x y : List ℕ) (work : ℕ) where
   unfoldable pub Says : Verdict → Type 0
@@ -62,7 +58,6 @@ module _ (L : Limits) (P R x y : List ℕ) (work : ℕ) where
   Says (Turns u v) = (checkFault L P R x y work ≡ none) × FirstTurn P x y u v
   Says (Refused k v) = checkFault L P R x y work ≡ some (record { number = k; node = v })
 
-unfoldable pub Untouched : Limits → Verdict → List ℕ → List ℕ → Type 0
-Untouched L Monotone W X = Unit {0}
-Untouched L (Turns u v) W X = Unit {0}
-Untouched L (Refused k v) W X = (k ≡ 1) ⊎ ((k ≡ L .surplus) ⊎ (k ≡ 3)) → X ≡ W
+pub record Checked (L : Limits) (P R x y W X : List ℕ) (r : Verdict) : Type 0 where
+  pub says : Says L P R x y (length W) r
+  pub spared : Spared L P R (allLong (length P) (x ∷ y ∷ [])) W X

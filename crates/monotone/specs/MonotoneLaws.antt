@@ -1,23 +1,25 @@
 -- What follows from the meaning of the check: it determines the answer, an edge of no length rises along nothing, and
 -- no edge rises both ways.
+--
+--   Before a b u v == the pair (a, b) comes before (u, v)
 use mathlib.Core.List.{List, [], _∷_}
-use mathlib.Core.Logic.{inl, inr}
+use mathlib.Core.Logic.{_⊎_, inl, inr}
 use mathlib.Core.Option.{Option, none, some}
-use mathlib.Core.Path.{_≡_, refl, sym, ap, ap₂, subst⁻¹, _∙_}
-use Prim.Native.Nat.{ℕ, _≤_, _<_}
+use mathlib.Core.Path.{_≡_, refl, sym, ap, ap₂, _∙_}
+use Prim.Native.Nat.{ℕ, _<_}
 use native.Mathlib.Omega.{arith}
 use lib.IntN.{ℤ, pos, negℤ, _+ℤ_, _-ℤ_, _*ℤ_, +ℤ-invr, *ℤ-zero}
-use lib.ListN.{length, getD}
-use lib.Signed.{_<ℤ_, <ℤ-irrefl}
+use lib.ListN.{getD}
+use lib.Signed.{<ℤ-irrefl}
 use Rattle.laws.specs.Search.{Refusal}
 use Rattle.laws.specs.Signs.{<-to, <→≤, not-both}
 use Rattle.laws.specs.Solver.{Expr, _⊕_, _⊖_, _⊗_, solve}
-use Rattle.laws.specs.Tests.{by-lt, by-eq}
+use Rattle.laws.specs.Tests.{by-lt}
 use Rattle.table.specs.declared.Limits.{Limits}
 use Rattle.monotone.specs.declared.Verdict.{Verdict}
 use Rattle.monotone.specs.declared.Verdict.the-variants.{Monotone, Turns, Refused}
 use Rattle.table.specs.Paths.{step, Rises}
-use Rattle.monotone.specs.Monotone.{Before, checkFault, Says}
+use Rattle.monotone.specs.Monotone.{Says}
 
 ------------------------------------------------------------------------
 -- Edges
@@ -45,6 +47,9 @@ not-both-ways x y d e a b r s =
 
 ------------------------------------------------------------------------
 -- One answer
+
+abbrev pub Before : ℕ → ℕ → ℕ → ℕ → Type 0
+Before a b u v = (a < u) ⊎ ((a ≡ u) × (b < v))
 
 never-both : {r : Refusal} {o : Option Refusal} → o ≡ none → o ≡ some r → ⊥
 never-both p q = let impossible : _≡_ {A = ℕ} 0 1 = cc in omega arith

@@ -8,14 +8,16 @@
 --   away P x y u z           == the edge of z, walked away from u: up where z is u or its ancestor, else down
 use mathlib.Core.Bool.{Bool, true, false, cond}
 use mathlib.Core.List.{List, [], _∷_}
-use mathlib.Core.Path.{_≡_, refl, sym, ap, subst, subst⁻¹, _∙_}
-use Prim.Native.Nat.{ℕ, zero, suc, _+_, _-_, _<_}
+use mathlib.Core.Path.{_≡_, ap, subst, subst⁻¹, _∙_}
+use Prim.Native.Nat.{ℕ, zero, suc, _-_, _<_}
 use native.Mathlib.Omega.{arith}
 use lib.ListN.{length}
 use Rattle.laws.specs.SearchLaws.{least-cong}
 use Rattle.laws.specs.Tests.{by-lt, differ, false-of, same-test}
-use Rattle.table.specs.Ancestry.{climb-shift, climb-onward, climb-inside, depth, depth-parent, under-climb, under-parent, under-refl, under-trans, under-antisym, under-on, rise-common, rise-lowest, rise-is, rise-zero, rise-way, rise-meet}
-use Rattle.table.specs.Paths.{step, PathRises}
+use Rattle.table.specs.Ancestry.{climb-shift, climb-onward, climb-inside, depth, depth-parent, under-climb}
+use Rattle.table.specs.Ancestry.{under-parent, under-refl, under-trans, under-antisym, under-on, rise-common}
+use Rattle.table.specs.Ancestry.{rise-lowest, rise-is, rise-zero, rise-way, rise-meet}
+use Rattle.table.specs.Paths.{step}
 use Rattle.table.specs.Table.{parent, climb, under, rise}
 use Rattle.table.specs.TableLaws.{Tree}
 use Rattle.monotone.specs.Monotone.{HasDirection}

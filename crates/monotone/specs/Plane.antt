@@ -15,7 +15,8 @@ use Prim.Native.Nat.{ℕ, zero, suc}
 use lib.IntN.{ℤ, pos, negsuc, negℤ, _+ℤ_, _-ℤ_, _*ℤ_, zero-*ℤ, *ℤ-zero, ℤ-discrete}
 use lib.Signed.{_<ℤ_, _≤ℤ_, <ℤ-irrefl, clashℤ}
 use Rattle.laws.specs.Solver.{Expr, v, k, _⊕_, _⊖_, _⊗_, solve}
-use Rattle.laws.specs.Signs.{<-to, ≤-to, <→≤, ≤+<, <+≤, ≤+≤, <*<, ≤*≤, neg-pos, neg-nonneg, not-both, cancel, square, square⁺, at-least}
+use Rattle.laws.specs.Signs.{<-to, ≤-to, <→≤, ≤+<, <+≤, ≤+≤, <*<, ≤*≤, neg-pos, neg-nonneg, not-both, cancel, square}
+use Rattle.laws.specs.Signs.{square⁺, at-least}
 
 ------------------------------------------------------------------------
 -- Half planes and cones

@@ -19,22 +19,18 @@
 --   Drawn P x y W       == the edges are those of a drawing, walked down
 --   Found P x y r       == r says whether every pair has a direction, or the first that has none
 --   Judged P R x y W    == what the refusals leave
---   Checked L ..        == r is what the check at the limits L answers, and X the work list after it
 use mathlib.Core.Bool.{true, false}
-use mathlib.Core.List.{List, [], _∷_}
-use mathlib.Core.Option.{some}
+use mathlib.Core.List.{List}
 use mathlib.Core.Path.{_≡_}
 use Prim.Native.Nat.{ℕ, _+_, _*_, _≤_, _<_}
 use lib.ListN.{length, getD, set}
 use Rattle.laws.specs.Regions.{Only}
-use Rattle.laws.specs.Search.{Refusal}
-use Rattle.table.specs.declared.Limits.{Limits}
-use Rattle.table.specs.Table.{parent, under, allLong, shapeFault}
+use Rattle.table.specs.Table.{parent, under}
 use Rattle.table.specs.TableLaws.{Tree}
 use Rattle.table.specs.Work.{Ready}
 use Rattle.monotone.specs.declared.Verdict.{Verdict}
 use Rattle.monotone.specs.declared.Verdict.the-variants.{Monotone, Turns, Refused}
-use Rattle.monotone.specs.Monotone.{AllDirected, FirstTurn, Says}
+use Rattle.monotone.specs.Monotone.{AllDirected, FirstTurn}
 use Rattle.monotone.specs.Plane.{Vec}
 use Rattle.monotone.specs.PathEdges.{OnPath}
 use Rattle.monotone.specs.Cones.{edgeAt, Edges, Holds, any, Formed, Grown}
@@ -137,7 +133,3 @@ pub record Judged (P R x y W : List ℕ) : Type 0 where
   pub few : length P ≤ 65536
   pub across : Coordinate P x
   pub up : Coordinate P y
-
-pub record Checked (L : Limits) (P R x y W X : List ℕ) (r : Verdict) : Type 0 where
-  pub says : Says L P R x y (length W) r
-  pub spared : (f : Refusal) → shapeFault L P R (allLong (length P) (x ∷ y ∷ [])) (length W) ≡ some f → X ≡ W

@@ -14,10 +14,12 @@ ghost use Rattle.laws.specs.Regions.{Only};
 ghost use Rattle.laws.specs.Search.{least};
 ghost use Rattle.table.specs.Table.{allLong, checked};
 ghost use Rattle.table.specs.Work.{Zeroed};
-ghost use Rattle.monotone.specs.Monotone.{beyond, Says, Untouched};
+ghost use Rattle.monotone.specs.Monotone.{beyond, Checked};
 ghost use Rattle.monotone.specs.Plane.{cross, dot};
-ghost use Rattle.monotone.specs.Rows.{WithEdges, EdgeTurned, Turned, Climbed, Reached, Visited, Ordered, Coned, Coordinate, DrawnPart, Drawn, Found, Judged, Checked};
-ghost use Rattle.monotone.specs.Cones.{vec, Small, Near, Moved, partAt, edgeAt, Part, Edges, Alone, Growing, Grown};
+ghost use Rattle.monotone.specs.Rows.{WithEdges, EdgeTurned, Turned, Climbed, Reached, Visited, Ordered, Coned};
+ghost use Rattle.monotone.specs.Rows.{Coordinate, DrawnPart, Drawn, Found, Judged};
+ghost use Rattle.monotone.specs.Cones.{vec, Small, Near, Moved, partAt, edgeAt, Part, Edges, Alone, Growing};
+ghost use Rattle.monotone.specs.Cones.{Grown};
 use table::Limits;
 use table::Validity;
 use table::clear;
@@ -250,7 +252,8 @@ fn cones(parent: &[u32], work: &mut [u32], u: usize)
 // Whether every pair has a direction, or the first pair that has none: the first whose path has no open half plane.
 fn pairs(parent: &[u32], work: &mut [u32]) -> Verdict
     requires { ⌜ WithEdges (now parent) (now work) × Ordered (now parent) (now work) ⌝ }
-    ensures { λ r. ⌜ ((x y : List ℕ) → Drawn (now (parent .entry)) x y (now (work .entry)) → Found (now (parent .entry)) x y r) ⌝ }
+    ensures { λ r. ⌜ ((x y : List ℕ) → Drawn (now (parent .entry)) x y (now (work .entry))
+        → Found (now (parent .entry)) x y r) ⌝ }
 {
     let n = parent.len();
     let mut answer = Verdict::Monotone;
@@ -339,7 +342,8 @@ fn check_within(
     work: &mut [u32],
 ) -> Verdict
     requires { ⌜ (limits .nodes ≤ 65536) × (limits .place ≤ 2147483647) ⌝ }
-    ensures { λ r. ⌜ Checked limits (now (parent .entry)) (now (rank .entry)) (now (x .entry)) (now (y .entry)) (now (work .entry)) (now (work .exit)) r ⌝ }
+    ensures { λ r. ⌜ Checked limits (now (parent .entry)) (now (rank .entry)) (now (x .entry)) (now (y .entry))
+        (now (work .entry)) (now (work .exit)) r ⌝ }
 {
     let n = parent.len();
     let long = both_long(x, y, n);
@@ -358,8 +362,8 @@ fn check_within(
 // Whether the drawing of a table is monotone: the first pair, by number, whose tree path rises along no direction. The
 // work list is 4n long; refusals 1, 14 and 3 leave it alone.
 pub fn check(parent: &[u32], rank: &[u32], x: &[u32], y: &[u32], work: &mut [u32]) -> Verdict
-    ensures { λ r. ⌜ Says checked (now (parent .entry)) (now (rank .entry)) (now (x .entry)) (now (y .entry)) (length (now (work .entry))) r ⌝ }
-    ensures { λ r. ⌜ Untouched checked r (now (work .entry)) (now (work .exit)) ⌝ }
+    ensures { λ r. ⌜ Checked checked (now (parent .entry)) (now (rank .entry)) (now (x .entry)) (now (y .entry))
+        (now (work .entry)) (now (work .exit)) r ⌝ }
 {
     let limits = Limits {
         nodes: 4096,

@@ -1,29 +1,28 @@
 -- An accepted file is laid out under both rules, and the text is that of the two fresh sheets.
-use mathlib.Core.Bool.{true}
 use mathlib.Core.List.{List}
 use mathlib.Core.Option.{none}
 use mathlib.Core.Path.{_≡_, refl, sym, ap, ap₂, subst, _∙_}
-use Prim.Native.Nat.{ℕ, _+_, _*_, _≤_, _<_}
+use Prim.Native.Nat.{ℕ, _+_, _*_, _≤_}
 use native.Mathlib.Omega.{arith}
 use lib.ListN.{length}
 use Rattle.laws.specs.Refusals.{orElse-second}
 use Rattle.laws.specs.SearchLaws.{length-tabulate}
 use Rattle.table.specs.Acceptance.{shape-fits}
 use Rattle.table.specs.declared.Limits.{Limits}
-use Rattle.table.specs.Table.{allLong, large, shapeFault, treeFault, tableFault}
+use Rattle.table.specs.Table.{large, shapeFault, treeFault, tableFault}
 use Rattle.slopes.specs.declared.Rule.{Rule}
 use Rattle.slopes.specs.declared.Rule.the-variants.{Steep, Balanced}
 use Rattle.drawing.specs.declared.Framed.{Framed}
 use Rattle.drawing.specs.CallLaws.{settle-none}
-use Rattle.drawing.specs.Drawing.{Drawing, Outcome, lists, lent, fresh, freshPlaces, layout, Laid}
+use Rattle.drawing.specs.Drawing.{Drawing, Outcome, lengthsFit, lent, fresh, freshPlaces, layout, Laid}
 use Rattle.drawing.specs.DrawingLaws.{all-three}
 use Rattle.treefile.specs.Bytes.{Read}
 use Rattle.treefile.specs.declared.Loaded.{Loaded}
-use Rattle.treefile.specs.TreeFile.{statedNodes, fileParents, fileRanks}
-use Rattle.text.specs.Text.{Places, sheetOf, Appended}
+use Rattle.treefile.specs.TreeFile.{statedNodes}
+use Rattle.text.specs.Text.{sheetOf, Appended}
 use Rattle.text.specs.TextLaws.{appended-is}
 use Rattle.text.specs.Writing.{placesOf, Lines}
-use Rattle.sheetfile.specs.SheetFile.{sheetLimits, fileFault, placesOfTable, sheetText, lotsIn}
+use Rattle.sheetfile.specs.SheetFile.{sheetLimits, placesOfTable, sheetText, lotsIn}
 use Rattle.sheetfile.specs.SheetFileLaws.{Opening, opening, parents-long, ranks-long, Taken, accepted-text}
 
 module _ {B X Y : List ℕ} (t : Taken B X Y) where
@@ -35,11 +34,11 @@ module _ {B X Y : List ℕ} (t : Taken B X Y) where
 
   pub fits-large : (s : Drawing) (work : ℕ) → length (s .times) ≡ lotsIn (length B) → length (s .x) ≡ lotsIn (length B)
       → length (s .y) ≡ lotsIn (length B) → work ≡ 4 * lotsIn (length B)
-      → tableFault large X Y (allLong (length X) (lists s)) work ≡ none
+      → tableFault large X Y (lengthsFit X s) work ≡ none
   unfolding tableFault
   fits-large s work et ex ey ew =
       let n : lotsIn (length B) ≡ length X = opened .lots ∙ sym table-long in
-      orElse-second (shapeFault large X Y (allLong (length X) (lists s)) work) (treeFault X Y) (shape-fits (record {
+      orElse-second (shapeFault large X Y (lengthsFit X s) work) (treeFault X Y) (shape-fits (record {
         some = omega (arith, table-long, opened .some);
         few = omega (arith, table-long, opened .few);
         ranks = ap length (t .ranks) ∙ ranks-long B ∙ sym table-long;

@@ -1,2 +1,3 @@
 pub mod SheetFile
 pub mod SheetFileLaws
+pub mod Examples

@@ -5,25 +5,26 @@
 --   refused-text       == the text where the reader refuses
 --   Taken B X Y        == what the reader leaves where it accepts
 --   cut-same           == a file cut after the longest accepted length and one byte gives the same text
-use mathlib.Core.Bool.{Bool, true, false, not, _&&_}
+use mathlib.Core.Bool.{not, _&&_}
 use mathlib.Core.List.{List}
 use mathlib.Core.Option.{Option, none, some}
-use mathlib.Core.Path.{_≡_, refl, sym, ap, ap₂, subst, _∙_}
-use Prim.Native.Nat.{ℕ, _+_, _-_, _*_, _/_, _≤_, _<_, min}
+use mathlib.Core.Path.{_≡_, refl, sym, ap, ap₂, _∙_}
+use Prim.Native.Nat.{ℕ, _+_, _*_, _≤_, _<_}
 use native.Mathlib.Omega.{arith}
 use lib.Dec.{ltb, eqb}
 use lib.ListN.{length, getD, take}
 use lib.Seq.{length-take-le, getD-take}
-use borrow.Author.Tests.{eqb-true, eqb-false, ltb-false, not-false, ne-eqb, lt-ltb, le-ltb}
-use Rattle.laws.specs.Refusals.{refusal, some-not-none, orElse-first, orElse-second, orElse-none, refuse-yes, refuse-no, refuse-none}
+use borrow.Author.Tests.{eqb-true, eqb-false, ltb-false, not-false, ne-eqb, le-ltb}
+use Rattle.laws.specs.Refusals.{refusal, some-not-none, orElse-first, orElse-second, orElse-none, refuse-yes}
+use Rattle.laws.specs.Refusals.{refuse-no, refuse-none}
 use Rattle.laws.specs.Search.{Refusal, refuse, _orElse_}
 use Rattle.laws.specs.SearchLaws.{length-tabulate}
-use Rattle.table.specs.declared.Limits.{Limits}
 use Rattle.table.specs.Table.{treeFault}
 use Rattle.treefile.specs.Bytes.{Read}
 use Rattle.treefile.specs.declared.Loaded.{Loaded}
 use Rattle.treefile.specs.declared.Loaded.the-variants.{Table, Refused}
-use Rattle.treefile.specs.TreeFile.{wordAt, words, statedNodes, fileParents, fileRanks, openFault, Lists, loaded, readTree}
+use Rattle.treefile.specs.TreeFile.{wordAt, words, statedNodes, fileParents, fileRanks, openFault, Lists, loaded}
+use Rattle.treefile.specs.TreeFile.{readTree}
 use Rattle.text.specs.Text.{sheetOf, refusalOf}
 use Rattle.sheetfile.specs.SheetFile.{sheetLimits, fileFault, placesOfTable, reply, sheetText, lotsIn}
 
@@ -102,7 +103,8 @@ ranks-long B = length-tabulate (statedNodes B) _
 ------------------------------------------------------------------------
 -- From the reader's answer
 
-loaded-refused : (f : Option Refusal) (B P R : List ℕ) {k v : ℕ} → loaded f B P R .answer ≡ Refused k v → f ≡ refusal k v
+loaded-refused : (f : Option Refusal) (B P R : List ℕ) {k v : ℕ} → loaded f B P R .answer ≡ Refused k v
+    → f ≡ refusal k v
 unfolding loaded
 loaded-refused none B P R e = absurd (let z : _≡_ {A = ℕ} 0 1 = cc in omega arith)
 loaded-refused (some r) B P R {k} {v} e =
@@ -129,7 +131,8 @@ pub record Taken (B X Y : List ℕ) : Type 0 where
   pub parents : X ≡ fileParents B
   pub ranks : Y ≡ fileRanks B
 
-module _ {B P R W X Y Z : List ℕ} {r : Loaded} (d : Read sheetLimits B P R W X Y Z r) (ep : length P ≡ lotsIn (length B))
+module _ {B P R W X Y Z : List ℕ} {r : Loaded} (d : Read sheetLimits B P R W X Y Z r)
+    (ep : length P ≡ lotsIn (length B))
     (er : length R ≡ lotsIn (length B)) (ew : length W ≡ 4 * lotsIn (length B)) where
   answered : record { answer = r; parents = X; ranks = Y } ≡ loaded (fileFault B) B P R
   unfolding readTree
@@ -218,7 +221,8 @@ pub cut-same : (B : List ℕ) → longest < length B → sheetText (take (longes
 unfolding statedNodes wordAt
 cut-same B h =
     long-same (take (longest + 1) B) B (omega (arith, length-take-le (longest + 1) B (omega arith))) h
-    (λ i. at 0 (omega arith) i + 256 * at 1 (omega arith) i + (65536 * at 2 (omega arith) i + 16777216 * at 3 (omega arith) i))
+    (λ i. at 0 (omega arith) i + 256 * at 1 (omega arith) i +
+    (65536 * at 2 (omega arith) i + 16777216 * at 3 (omega arith) i))
   where
     at : (k : ℕ) → k < 4 → getD (take (longest + 1) B) k 0 ≡ getD B k 0
     at k l = getD-take (longest + 1) B k 0 (omega arith)

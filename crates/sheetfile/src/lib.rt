@@ -47,7 +47,8 @@ fn fitted_text(
     work: &mut [u32],
     out: &mut [u8],
 ) -> usize
-    requires { ⌜ Fitting (now bytes) (now parent) (now rank) (now times) (now x) (now y) (now u) (now w) (now work) (now out) ⌝ }
+    requires { ⌜ Fitting (now bytes) (now parent) (now rank) (now times) (now x) (now y) (now u) (now w) (now work)
+        (now out) ⌝ }
     ensures { λ r. ⌜ Appended (now (out .entry)) (now (out .exit)) 0 r (sheetText (now (bytes .entry))) ⌝ }
 {
     let limits = sheet_limits();
@@ -75,7 +76,8 @@ pub fn sheet_text(
     work: &mut [u32],
     out: &mut [u8],
 ) -> usize
-    requires { ⌜ Ample (now bytes) (now parent) (now rank) (now times) (now x) (now y) (now u) (now w) (now work) (now out) ⌝ }
+    requires { ⌜ Ample (now bytes) (now parent) (now rank) (now times) (now x) (now y) (now u) (now w) (now work)
+        (now out) ⌝ }
     ensures { λ r. ⌜ Appended (now (out .entry)) (now (out .exit)) 0 r (sheetText (now (bytes .entry))) ⌝ }
 {
     let n = lots_in(bytes);

@@ -20,8 +20,8 @@ use lib.Pow.{pow-pos, pow-mono, mod-pow-add, mod-mod-pow}
 use borrow.Author.Tests.{eqb-true, eqb-false, eq-eqb, ne-eqb}
 use Rattle.laws.specs.Tests.{by-test, by-lt}
 use Rattle.slopes.specs.declared.Slope.{Slope}
-use Rattle.slopes.specs.LevelLaws.{_∈_, levels-left, levels-middle, levels-right}
-use Rattle.slopes.specs.Slopes.{_⊕_, levels, level, flat, upright, fractionAt}
+use Rattle.slopes.specs.LevelLaws.{_∈_, levels-left, levels-middle, levels-right, level}
+use Rattle.slopes.specs.Slopes.{_⊕_, levels, flat, upright, fractionAt}
 
 abbrev pub bitOf : ℕ → ℕ → ℕ
 bitOf j b = j / 2 ^ b % 2

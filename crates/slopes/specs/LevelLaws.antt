@@ -1,5 +1,6 @@
 -- Laws of the Stern-Brocot levels between two neighbours: their order, number, places, sums and size.
 --
+--   level i l r      == the fractions of level i + 1 between l and r, left to right
 --   Below s t        == s is less steep than t: the cross product of s and t is above 0
 --   Adjacent s t     == the determinant of s and t, which is that cross product, is 1
 --   Linked l ss r    == from l by the list ss to r, each is adjacent to the next
@@ -19,7 +20,11 @@ use lib.Pow.{pow-mono}
 use lib.Seq.{getD-at, getD-append-add}
 use Rattle.laws.specs.Sums.{sum, sum-cong, sum-plus}
 use Rattle.slopes.specs.declared.Slope.{Slope}
-use Rattle.slopes.specs.Slopes.{acrossOf, upOf, _⊕_, levels, level, flat, upright}
+use Rattle.slopes.specs.Slopes.{acrossOf, upOf, _⊕_, levels, flat, upright}
+
+unfoldable pub level : ℕ → Slope → Slope → List Slope
+level zero l r = (l ⊕ r) ∷ []
+level (suc i) l r = level i l (l ⊕ r) ++ level i (l ⊕ r) r
 
 ------------------------------------------------------------------------
 -- Order

@@ -2,7 +2,7 @@
 use mathlib.Core.Bool.{Bool, true, false}
 use mathlib.Core.List.{List}
 use mathlib.Core.Path.{_≡_, refl, sym, ap, subst, subst⁻¹, _∙_}
-use Prim.Native.Nat.{ℕ, zero, suc, _+_, _*_, _^_, _≤_, _<_}
+use Prim.Native.Nat.{ℕ, _+_, _*_, _≤_, _<_}
 use native.Mathlib.Omega.{arith}
 use lib.ListN.{length, getD, set}
 use Rattle.laws.specs.Regions.{Only, read-set, only-refl, only-trans, only-within, only-set}
@@ -10,7 +10,7 @@ use Rattle.laws.specs.Search.{bit, count}
 use Rattle.laws.specs.SearchLaws.{count-zero, count-more, count-le}
 use Rattle.laws.specs.Sums.{sum, sum-zero, sum-more, sum-mono}
 use Rattle.laws.specs.Tests.{by-lt, false-of}
-use Rattle.table.specs.Children.{Nodes, Child, child-of, child-test, root-no-child, children-total}
+use Rattle.table.specs.Children.{child-of, child-test, root-no-child, children-total}
 use Rattle.table.specs.Table.{parent, isChild, children}
 use Rattle.table.specs.Work.{Scratch, Zeroed, Tallied, Started}
 

@@ -1,11 +1,10 @@
 -- Refusal 7: every node is led to a marked one, and the way there is marked; the least node that is not is adrift.
-use mathlib.Core.Bool.{Bool, true, false}
+use mathlib.Core.Bool.{true, false}
 use mathlib.Core.List.{List}
-use mathlib.Core.Path.{_≡_, refl, sym, ap, subst, subst⁻¹, _∙_}
-use Prim.Native.Nat.{ℕ, zero, suc, _+_, _-_, _*_, _^_, _≤_, _<_}
+use mathlib.Core.Path.{_≡_, sym, ap, subst, subst⁻¹, _∙_}
+use Prim.Native.Nat.{ℕ, _+_, _-_, _*_, _≤_, _<_}
 use native.Mathlib.Numerals.{add-one}
 use native.Mathlib.Omega.{arith}
-use lib.Dec.{ltb}
 use lib.ListN.{length, getD, set}
 use lib.Seq.{getD-set-same, getD-set-other}
 use borrow.Author.Count.{below-more, below-none}
@@ -13,11 +12,11 @@ use borrow.Author.Tests.{ltb-true, lt-ltb, le-ltb}
 use Rattle.laws.specs.Regions.{Only, only-refl, only-set, only-trans}
 use Rattle.laws.specs.Search.{least}
 use Rattle.laws.specs.SearchLaws.{least-is, least-below, least-passes}
-use Rattle.laws.specs.Sums.{sum}
 use Rattle.laws.specs.Tests.{by-eq, by-lt, differ}
-use Rattle.table.specs.Ancestry.{climb-plus, climb-inside, climb-zero, climb-suc, climb-onward, leads-in-n, leads-steps}
+use Rattle.table.specs.Ancestry.{climb-plus, climb-inside, climb-zero, climb-suc, climb-onward, leads-in-n}
+use Rattle.table.specs.Ancestry.{leads-steps}
 use Rattle.table.specs.Children.{children-total}
-use Rattle.table.specs.Table.{parent, climb, children, adrift}
+use Rattle.table.specs.Table.{parent, climb, adrift}
 use Rattle.table.specs.TableLaws.{adrift-root, adrift-yes, adrift-no}
 use Rattle.table.specs.Work.{Scratch, Zeroed, Started, marked, Marking, Reaching}
 use Rattle.table.proofs.FirstSlots.{scratch-kept}

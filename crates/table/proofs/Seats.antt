@@ -1,19 +1,19 @@
 -- Refusal 6: how many nodes stand in each slot, and the least node that shares its slot or has none.
-use mathlib.Core.Bool.{Bool, true, false, _&&_}
+use mathlib.Core.Bool.{true, false, _&&_}
 use mathlib.Core.List.{List}
-use mathlib.Core.Path.{_≡_, refl, sym, ap, subst, _∙_}
-use Prim.Native.Nat.{ℕ, zero, suc, _+_, _-_, _*_, _^_, _≤_, _<_}
+use mathlib.Core.Path.{_≡_, refl, sym, ap, _∙_}
+use Prim.Native.Nat.{ℕ, _+_, _-_, _*_, _≤_, _<_}
 use native.Mathlib.Omega.{arith}
 use lib.Dec.{ltb, eqb}
 use lib.ListN.{length, getD, set}
 use borrow.Author.Tests.{ltb-true, eqb-true, lt-ltb, eq-eqb}
 use borrow.Author.Count.{below-more, below-none}
-use Rattle.laws.specs.Regions.{Only, only-refl, only-store}
+use Rattle.laws.specs.Regions.{Only, only-store}
 use Rattle.laws.specs.Search.{bit, count, least}
 use Rattle.laws.specs.SearchLaws.{count-zero, count-more, count-le, count-cong, least-is}
 use Rattle.laws.specs.Sums.{sum, sum-more}
-use Rattle.laws.specs.Tests.{both, both-is, same-test, false-of, by-lt}
-use Rattle.table.specs.Children.{Child, childAt-of, childAt-test, slot, slot-below, slot-once}
+use Rattle.laws.specs.Tests.{both, both-is, same-test, false-of}
+use Rattle.table.specs.Children.{childAt-of, childAt-test, slot, slot-below, slot-once}
 use Rattle.table.specs.Table.{parent, rank, children, isChildAt, badRank}
 use Rattle.table.specs.TableLaws.{bad-root, bad-high, bad-shared, bad-no}
 use Rattle.table.specs.Work.{Scratch, Zeroed, Started, inSlot, Seating, Occupied}

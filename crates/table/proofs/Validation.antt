@@ -3,21 +3,22 @@ use mathlib.Core.Bool.{Bool, true, false, not, _&&_, and-false}
 use mathlib.Core.List.{List}
 use mathlib.Core.Option.{Option, none, some}
 use mathlib.Core.Path.{_≡_, refl, sym, ap, _∙_}
-use Prim.Native.Nat.{ℕ, _+_, _*_, _^_, _≤_, _<_}
+use Prim.Native.Nat.{ℕ, _+_, _*_, _≤_, _<_}
 use native.Mathlib.Omega.{arith}
-use lib.Dec.{ltb, eqb}
-use lib.ListN.{length, getD}
+use lib.Dec.{eqb}
+use lib.ListN.{length}
 use borrow.Author.Tests.{eqb-true, eq-eqb, ne-eqb, lt-ltb, le-ltb}
-use Rattle.laws.specs.Refusals.{refusal, some-not-none, orElse-first, orElse-second, refuse-yes, refuse-no, refuseLeast-yes, refuseLeast-no}
+use Rattle.laws.specs.Refusals.{refusal, some-not-none, orElse-first, orElse-second, refuse-yes, refuse-no}
+use Rattle.laws.specs.Refusals.{refuseLeast-yes, refuseLeast-no}
 use Rattle.laws.specs.Regions.{Only, only-refl, only-trans, only-within}
-use Rattle.laws.specs.Search.{least, Refusal, refuse, refuseLeast, _orElse_}
+use Rattle.laws.specs.Search.{least, Refusal, refuse, refuseLeast}
 use Rattle.laws.specs.SearchLaws.{least-none}
 use Rattle.laws.specs.Tests.{by-lt, differ, false-of, both, both-is}
-use Rattle.table.specs.Acceptance.{Shape, shape-fits}
+use Rattle.table.specs.Acceptance.{Shape, shape-fits, validity}
 use Rattle.table.specs.declared.Limits.{Limits}
 use Rattle.table.specs.declared.Validity.{Validity}
 use Rattle.table.specs.declared.Validity.the-variants.{Accepted, Refused}
-use Rattle.table.specs.Table.{parent, rank, strayParent, badRank, adrift, shapeFault, treeFault, tableFault, validity}
+use Rattle.table.specs.Table.{parent, rank, strayParent, badRank, adrift, shapeFault, treeFault, tableFault}
 use Rattle.table.specs.TableLaws.{stray-yes}
 use Rattle.table.specs.Work.{Scratch, Zeroed, Started, Occupied, Shaped, Structured, Validated}
 

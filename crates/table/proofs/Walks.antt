@@ -1,20 +1,20 @@
 -- The numbering: slots filled with the children, and the walk in post-order through them.
-use mathlib.Core.Bool.{Bool, true, false}
 use mathlib.Core.List.{List}
-use mathlib.Core.Path.{_≡_, refl, sym, ap, ap₂, subst, subst⁻¹, _∙_}
-use Prim.Native.Nat.{ℕ, zero, suc, _+_, _-_, _*_, _^_, _≤_, _<_}
+use mathlib.Core.Path.{_≡_, sym, ap, ap₂, subst, subst⁻¹, _∙_}
+use Prim.Native.Nat.{ℕ, _+_, _*_, _≤_, _<_}
 use native.Mathlib.Omega.{arith}
 use lib.ListN.{length, getD, set}
-use lib.Seq.{getD-set-same}
 use Rattle.laws.specs.Regions.{Only, read-set, only-refl, only-set, only-store}
 use Rattle.laws.specs.Sums.{sum, sum-more}
 use Rattle.laws.specs.Tests.{by-eq, by-lt}
-use Rattle.table.specs.Children.{ChildAt, childAt-only, childAt-unique, slot, slot-below, slot-once}
-use Rattle.table.specs.Numbering.{Numbering, Numbered, numbering, number-at, root-last, number-start, last-child, next-child, first-child, leaf-number}
-use Rattle.table.specs.Postorder.{size, start, child-at, size-step, first-is, number-is, place-of-number, start-root}
-use Rattle.table.specs.Table.{parent, rank, children, childAt, order, postNumber, firstNumber}
+use Rattle.table.specs.Children.{childAt-only, slot, slot-below, slot-once}
+use Rattle.table.specs.Numbering.{Numbered, numbering, number-at, root-last, number-start, last-child}
+use Rattle.table.specs.Numbering.{next-child, first-child, leaf-number}
+use Rattle.table.specs.Postorder.{size, start, child-at, first-is, number-is, place-of-number, start-root}
+use Rattle.table.specs.Postorder.{firstNumber}
+use Rattle.table.specs.Table.{parent, rank, children, childAt, order, postNumber}
 use Rattle.table.specs.TableLaws.{Tree, tree-nodes, tree-ranked}
-use Rattle.table.specs.Work.{Started, Slotted, Ready, Seated, Leftmost, Next, Visited}
+use Rattle.table.specs.Work.{Ready, Seated, Leftmost, Next, Visited}
 
 ------------------------------------------------------------------------
 -- First slots as a table of the children

@@ -2,19 +2,20 @@
 --
 --   Shape L ..       == what refusals 1 to 3 leave
 --   Accepting L ..   == what refusals 1 to 7 leave
+--   validity f       == the answer that says refusal f, or that the table is accepted
 --   RanksUsedOnce    == the ranks of a node's children are 0, 1, .., each used by one
-use mathlib.Core.Bool.{Bool, true, false, not, _&&_}
+use mathlib.Core.Bool.{Bool, true, false, not}
 use mathlib.Core.List.{List}
 use mathlib.Core.Logic.{_↔_}
 use mathlib.Core.Option.{Option, none, some}
 use mathlib.Core.Path.{_≡_, refl, sym, ap, ap₂, subst, _∙_}
 use Prim.Native.Nat.{ℕ, _*_, _≤_, _<_}
 use native.Mathlib.Omega.{arith}
-use lib.Dec.{ltb, eqb}
-use lib.ListN.{length, getD}
+use lib.Dec.{eqb}
+use lib.ListN.{length}
 use borrow.Author.Tests.{eqb-true, eqb-false, ltb-false, not-false, le-ltb, eq-eqb, ne-eqb}
 use Rattle.laws.specs.Refusals.{refusal, orElse-second, orElse-none, refuse-no, refuse-none, refuseLeast-none}
-use Rattle.laws.specs.Search.{count, Refusal, refuse, refuseLeast, _orElse_}
+use Rattle.laws.specs.Search.{Refusal}
 use Rattle.laws.specs.SearchLaws.{count-two}
 use Rattle.laws.specs.Tests.{by-eq, by-lt, differ, both, both-is, trichotomy}
 use Rattle.table.specs.Ancestry.{climb-root, leads-in-n, leads-steps}
@@ -22,8 +23,13 @@ use Rattle.table.specs.Children.{Nodes, Child, childAt-test, childAt-is}
 use Rattle.table.specs.declared.Limits.{Limits}
 use Rattle.table.specs.declared.Validity.{Validity}
 use Rattle.table.specs.declared.Validity.the-variants.{Accepted, Refused}
-use Rattle.table.specs.Table.{parent, rank, climb, leads, children, childAt, strayParent, badRank, adrift, shapeFault, treeFault, tableFault, validity}
+use Rattle.table.specs.Table.{parent, rank, climb, leads, children, childAt, strayParent, badRank, adrift}
+use Rattle.table.specs.Table.{shapeFault, treeFault, tableFault}
 use Rattle.table.specs.TableLaws.{Tree, tree-ranked, stray-yes, bad-high, bad-shared, adrift-yes}
+
+unfoldable pub validity : Option Refusal → Validity
+validity none = Accepted
+validity (some r) = Refused (r .number) (r .node)
 
 ------------------------------------------------------------------------
 -- The shape

@@ -6,13 +6,13 @@
 --   Child P p v          == v is a child of p
 --   ChildAt P R p r v    == v is the child of p with rank r
 --   slot P R v           == v's place if the children of 0, of 1, .. are put one after the other, each in rank order
-use mathlib.Core.Bool.{Bool, true, false}
+use mathlib.Core.Bool.{true, false}
 use mathlib.Core.List.{List}
 use mathlib.Core.Path.{_≡_, refl, sym, ap, ap₂, subst, _∙_}
 use Prim.Native.Nat.{ℕ, zero, suc, _+_, _≤_, _<_}
 use native.Mathlib.Omega.{arith}
 use lib.Dec.{ltb, eqb}
-use lib.ListN.{length, getD}
+use lib.ListN.{length}
 use borrow.Author.Tests.{ltb-true, eqb-true, lt-ltb, le-ltb, eq-eqb}
 use Rattle.laws.specs.Search.{bit, count}
 use Rattle.laws.specs.SearchLaws.{count-none, count-some, least-found}

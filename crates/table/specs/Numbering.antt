@@ -9,17 +9,19 @@
 use mathlib.Core.Bool.{true}
 use mathlib.Core.List.{List, [], _∷_, _++_}
 use mathlib.Core.Logic.{_↔_}
-use mathlib.Core.Path.{_≡_, refl, sym, ap, ap₂, subst, subst⁻¹, _∙_}
+use mathlib.Core.Path.{_≡_, sym, ap, ap₂, subst, subst⁻¹, _∙_}
 use Prim.Native.Nat.{ℕ, zero, suc, _+_, _-_, _*_, _≤_, _<_}
 use native.Mathlib.Omega.{arith}
 use lib.ListN.{length, getD, length-append, List·getD-append}
 use lib.Seq.{getD-at, getD-append-add}
-use Rattle.laws.specs.Sums.{sum-more, sum-mono, sum-term}
+use Rattle.laws.specs.Sums.{sum-more, sum-mono}
 use Rattle.laws.specs.Tests.{by-lt}
 use Rattle.table.specs.Ancestry.{under-steps, steps-under}
-use Rattle.table.specs.Children.{childAt-only, ChildAt}
-use Rattle.table.specs.Postorder.{size, ahead, Block, start, child-at, block-of, order-length, root-size, size-step, start-root, start-child, number-is, number-le, first-is, node-at, at-place, place-of-number}
-use Rattle.table.specs.Table.{parent, rank, climb, under, children, childAt, forest, postorder, subtree, order, postNumber, firstNumber}
+use Rattle.table.specs.Children.{childAt-only}
+use Rattle.table.specs.Postorder.{size, ahead, start, child-at, block-of, root-size, size-step, start-root}
+use Rattle.table.specs.Postorder.{start-child, number-is, number-le, first-is, at-place, place-of-number}
+use Rattle.table.specs.Postorder.{firstNumber, subtree}
+use Rattle.table.specs.Table.{parent, rank, climb, under, children, childAt, forest, postorder, order, postNumber}
 use Rattle.table.specs.TableLaws.{Tree, tree-ranked}
 
 pub record Numbering (P R : List ℕ) (number : ℕ → ℕ) : Type 0 where

@@ -1,26 +1,36 @@
 -- The post-order of an accepted table: each subtree is a block of the whole order, and every node stands in it once.
 --
+--   subtree P R v     == v's subtree in post-order
+--   firstNumber P R v == the first post number in v's subtree, whose last is v's own
 --   size P R v        == the number of nodes in v's subtree
 --   ahead P R v r     == the number of nodes in the subtrees of v's first r children
 --   Block P R v b     == v's subtree is the block of the order that starts after b nodes
 --   start P R v       == the number of nodes before v's block
-use mathlib.Core.Bool.{Bool, true, false}
 use mathlib.Core.List.{List, [], _∷_, _++_, append-assoc, append-nil}
 use mathlib.Core.Logic.{⊎-elim}
 use mathlib.Core.Path.{_≡_, refl, sym, ap, ap₂, subst, subst⁻¹, _∙_}
 use Prim.Native.Nat.{ℕ, zero, suc, _+_, _-_, _≤_, _<_}
 use native.Mathlib.Nat.{eq-or-lt-of-le, le-of-suc-le-suc}
 use native.Mathlib.Omega.{arith}
-use lib.Dec.{ltb, eqb}
+use lib.Dec.{ltb}
 use lib.ListN.{length, getD, length-append}
 use lib.Seq.{getD-at}
-use borrow.Author.Tests.{lt-ltb, eq-eqb, ne-eqb}
-use Rattle.laws.specs.Sums.{sum, sum-more, sum-cong, sum-plus, sum-term, sum-ones, weigh, weightedSum, weighed, weigh-one, split-first, injective-onto}
+use borrow.Author.Tests.{eq-eqb, ne-eqb}
+use Rattle.laws.specs.Sums.{sum, sum-cong, sum-plus, sum-ones, weightedSum, weighed, weigh-one, split-first}
+use Rattle.laws.specs.Sums.{injective-onto}
 use Rattle.laws.specs.Tests.{by-eq, by-lt, false-of}
 use Rattle.table.specs.Ancestry.{depth, depth-below-n, depth-parent}
-use Rattle.table.specs.Children.{Child, childAt-of, childAt-test, ChildAt, childAt-is, childAt-only, one-parent, one-rank-a-child}
-use Rattle.table.specs.Table.{parent, rank, isChild, children, isChildAt, childAt, forest, postorder, subtree, order, place, postNumber, firstNumber}
+use Rattle.table.specs.Children.{childAt-of, childAt-test, ChildAt, childAt-is, childAt-only, one-parent}
+use Rattle.table.specs.Children.{one-rank-a-child}
+use Rattle.table.specs.Table.{parent, rank, isChild, children, isChildAt, childAt, forest, postorder, order}
+use Rattle.table.specs.Table.{place, postNumber}
 use Rattle.table.specs.TableLaws.{Tree, tree-nodes, tree-ranked}
+
+unfoldable pub subtree : List ℕ → List ℕ → ℕ → List ℕ
+subtree P R v = postorder P R (suc (length P)) v
+
+unfoldable pub firstNumber : List ℕ → List ℕ → ℕ → ℕ
+firstNumber P R v = suc (postNumber P R v) - length (subtree P R v)
 
 ------------------------------------------------------------------------
 -- Lists of lists
@@ -155,14 +165,14 @@ module _ {P R : List ℕ} (t : Tree P R) where
           ∙ ap₂ (λ (x y : ℕ). x + y) (sum-children (size P R)) (sum-ones (length P))
 
   pub order-length : length (order P R) ≡ length P
-  unfolding order
+  unfolding order subtree
   order-length = root-size
 
   ------------------------------------------------------------------------
   -- Blocks
 
   block-root : Block P R 0 0
-  unfolding order
+  unfolding order subtree
   block-root = record { front = []; back = []; is = sym (append-nil (subtree P R 0)); long = refl }
 
   block-child : (v r b : ℕ) → v < length P → r < children P v → Block P R v b

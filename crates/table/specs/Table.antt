@@ -13,25 +13,22 @@
 --   under P a v              == v is in a's subtree: a is v or an ancestor of v
 --   rise P u v               == the number of steps from u up to the lowest common ancestor of u and v
 --   postorder P R f v        == v's subtree, the subtrees of the children in rank order, then v; f bounds the depth
---   subtree P R v            == v's subtree in post-order
---   order P R                == the whole post-order: the root's
+--   order P R                == the whole post-order: the root's subtree
 --   postNumber P R v         == v's place in it, from 1
---   firstNumber P R v        == the first post number in v's subtree, whose last is v's own
 --   large, checked           == the limits of a call on a table, and of the check
 --   shapeFault L ..          == refusals 1 to 3 at the limits L
 --   treeFault P R            == refusals 4 to 7
 --   tableFault L ..          == both, in this order
---   validity f               == the answer that says so
-use mathlib.Core.Bool.{Bool, true, false, cond, not, _&&_, _||_}
+--   Spared L ..              == the work list, W at entry and X at exit, is left alone on refusals 1 to 3
+use mathlib.Core.Bool.{Bool, true, cond, not, _&&_, _||_}
 use mathlib.Core.List.{List, [], _∷_, _++_}
-use mathlib.Core.Option.{Option, none, some}
-use Prim.Native.Nat.{ℕ, zero, suc, _-_, _*_}
+use mathlib.Core.Option.{Option, some}
+use mathlib.Core.Path.{_≡_}
+use Prim.Native.Nat.{ℕ, zero, suc, _*_}
 use lib.Dec.{ltb, leb, eqb}
 use lib.ListN.{length, getD}
 use Rattle.laws.specs.Search.{count, least, Refusal, refuse, refuseLeast, _orElse_}
 use Rattle.table.specs.declared.Limits.{Limits}
-use Rattle.table.specs.declared.Validity.{Validity}
-use Rattle.table.specs.declared.Validity.the-variants.{Accepted, Refused}
 
 ------------------------------------------------------------------------
 -- Parents and children
@@ -87,17 +84,11 @@ place v [] = 0
 place v (a ∷ l) = cond (eqb v a) 0 (suc (place v l))
 
 -- no path to the root is longer than n steps
-unfoldable pub subtree : List ℕ → List ℕ → ℕ → List ℕ
-subtree P R v = postorder P R (suc (length P)) v
-
 unfoldable pub order : List ℕ → List ℕ → List ℕ
-order P R = subtree P R 0
+order P R = postorder P R (suc (length P)) 0
 
 unfoldable pub postNumber : List ℕ → List ℕ → ℕ → ℕ
 postNumber P R v = suc (place v (order P R))
-
-unfoldable pub firstNumber : List ℕ → List ℕ → ℕ → ℕ
-firstNumber P R v = suc (postNumber P R v) - length (subtree P R v)
 
 ------------------------------------------------------------------------
 -- Limits
@@ -148,6 +139,5 @@ treeFault P R =
 unfoldable pub tableFault : Limits → List ℕ → List ℕ → Bool → ℕ → Option Refusal
 tableFault L P R long work = shapeFault L P R long work orElse treeFault P R
 
-unfoldable pub validity : Option Refusal → Validity
-validity none = Accepted
-validity (some r) = Refused (r .number) (r .node)
+abbrev pub Spared : Limits → List ℕ → List ℕ → Bool → List ℕ → List ℕ → Type 0
+Spared L P R long W X = (f : Refusal) → shapeFault L P R long (length W) ≡ some f → X ≡ W

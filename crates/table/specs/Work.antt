@@ -20,13 +20,16 @@ use Prim.Native.Nat.{ℕ, _+_, _*_, _^_, _≤_, _<_}
 use lib.Dec.{ltb, eqb}
 use lib.ListN.{length, getD}
 use Rattle.laws.specs.Regions.{Only}
-use Rattle.laws.specs.Search.{count, Refusal}
+use Rattle.laws.specs.Search.{count}
 use Rattle.laws.specs.Sums.{sum}
 use Rattle.table.specs.Children.{Nodes, slot}
 use Rattle.table.specs.declared.Limits.{Limits}
 use Rattle.table.specs.declared.Validity.{Validity}
 use Rattle.table.specs.declared.Validity.the-variants.{Accepted}
-use Rattle.table.specs.Table.{parent, rank, climb, children, isChildAt, order, postNumber, firstNumber, shapeFault, treeFault, tableFault, validity}
+use Rattle.table.specs.Table.{parent, rank, climb, children, isChildAt, order, postNumber, treeFault}
+use Rattle.table.specs.Table.{tableFault, Spared}
+use Rattle.table.specs.Postorder.{firstNumber}
+use Rattle.table.specs.Acceptance.{validity}
 use Rattle.table.specs.TableLaws.{Tree}
 
 pub record Scratch (P W : List ℕ) : Type 0 where
@@ -85,7 +88,7 @@ pub record Reaching (P W : List ℕ) (v k : ℕ) : Type 0 where
 
 pub record Validated (L : Limits) (P R : List ℕ) (long : Bool) (W X : List ℕ) (r : Validity) : Type 0 where
   pub answer : r ≡ validity (tableFault L P R long (length W))
-  pub spared : (f : Refusal) → shapeFault L P R long (length W) ≡ some f → X ≡ W
+  pub spared : Spared L P R long W X
   pub kept : Only 0 (2 * length P) W X
   pub started : r ≡ Accepted → Started P X
 

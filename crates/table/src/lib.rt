@@ -5,12 +5,14 @@
 // leaves the post numbers at 0, the first numbers of the subtrees at 2n and the post-order itself at 3n.
 ghost use mathlib.Core.Bool.{true};
 ghost use mathlib.Core.Path.{_≡_};
-ghost use Prim.Native.Nat.{ℕ, _+_, _*_, _^_, _≤_, _<_};
+ghost use Prim.Native.Nat.{_+_, _*_, _^_, _≤_, _<_};
 ghost use lib.ListN.{length, getD, set};
 ghost use Rattle.laws.specs.Regions.{Only};
 ghost use Rattle.laws.specs.Search.{least};
 ghost use Rattle.table.specs.Table.{climb, postNumber, strayParent, badRank, adrift, large};
-ghost use Rattle.table.specs.Work.{Scratch, Zeroed, Tallied, Started, Seating, Occupied, marked, Marking, Reaching, Shaped, Structured, Validated, Ready, Seated, Leftmost, Next, Visited};
+ghost use Rattle.table.specs.Work.{Scratch, Zeroed, Tallied, Started, Seating, Occupied, marked, Marking};
+ghost use Rattle.table.specs.Work.{Reaching, Shaped, Structured, Validated, Ready, Seated, Leftmost, Next};
+ghost use Rattle.table.specs.Work.{Visited};
 ghost use Rattle.table.specs.Numbering.{Numbered};
 
 // What a call accepts: the most nodes with the number that refuses more, and the largest place with the number that
@@ -87,7 +89,8 @@ pub fn clear(work: &mut [u32], a: usize, e: usize)
 // Counts the children of p at p + 1, for each node p.
 fn tally(parent: &[u32], work: &mut [u32])
     requires { ⌜ Scratch (now parent) (now work) × Zeroed 0 (2 * length (now parent)) (now work) ⌝ }
-    ensures { λ _. ⌜ Tallied (now (parent .entry)) (now (work .exit)) × Only 0 (length (now (parent .entry)) + 1) (now (work .entry)) (now (work .exit)) ⌝ }
+    ensures { λ _. ⌜ Tallied (now (parent .entry)) (now (work .exit))
+        × Only 0 (length (now (parent .entry)) + 1) (now (work .entry)) (now (work .exit)) ⌝ }
 {
     let n = parent.len();
     let mut v = 1;
@@ -102,7 +105,8 @@ fn tally(parent: &[u32], work: &mut [u32])
 // Sums the tallies up: at p the number of children of all nodes before p.
 fn accumulate(parent: &[u32], work: &mut [u32])
     requires { ⌜ Scratch (now parent) (now work) × Tallied (now parent) (now work) ⌝ }
-    ensures { λ _. ⌜ Started (now (parent .entry)) (now (work .exit)) × Only 0 (length (now (parent .entry)) + 1) (now (work .entry)) (now (work .exit)) ⌝ }
+    ensures { λ _. ⌜ Started (now (parent .entry)) (now (work .exit))
+        × Only 0 (length (now (parent .entry)) + 1) (now (work .entry)) (now (work .exit)) ⌝ }
 {
     let n = parent.len();
     let mut p = 0;
@@ -117,7 +121,9 @@ fn accumulate(parent: &[u32], work: &mut [u32])
 // The first slot of each node's children, and no slot taken.
 fn starts(parent: &[u32], work: &mut [u32])
     requires { ⌜ Scratch (now parent) (now work) ⌝ }
-    ensures { λ _. ⌜ Started (now (parent .entry)) (now (work .exit)) × Zeroed (length (now (parent .entry)) + 1) (2 * length (now (parent .entry))) (now (work .exit)) × Only 0 (2 * length (now (parent .entry))) (now (work .entry)) (now (work .exit)) ⌝ }
+    ensures { λ _. ⌜ Started (now (parent .entry)) (now (work .exit))
+        × Zeroed (length (now (parent .entry)) + 1) (2 * length (now (parent .entry))) (now (work .exit))
+        × Only 0 (2 * length (now (parent .entry))) (now (work .entry)) (now (work .exit)) ⌝ }
 {
     let n = parent.len();
     clear(work, 0, 2 * n);
@@ -128,7 +134,9 @@ fn starts(parent: &[u32], work: &mut [u32])
 // Counts v in the slot of its rank, if its parent has so many children.
 fn seat(parent: &[u32], rank: &[u32], work: &mut [u32], v: usize)
     requires { ⌜ Seating (now parent) (now rank) (now work) v × (v < length (now parent)) ⌝ }
-    ensures { λ _. ⌜ Seating (now (parent .entry)) (now (rank .entry)) (now (work .exit)) (v + 1) × Only (length (now (parent .entry)) + 1) (2 * length (now (parent .entry))) (now (work .entry)) (now (work .exit)) ⌝ }
+    ensures { λ _. ⌜ Seating (now (parent .entry)) (now (rank .entry)) (now (work .exit)) (v + 1)
+        × Only (length (now (parent .entry)) + 1) (2 * length (now (parent .entry))) (now (work .entry))
+        (now (work .exit)) ⌝ }
 {
     let n = parent.len();
     let p = get(parent, v);
@@ -145,8 +153,11 @@ fn seat(parent: &[u32], rank: &[u32], work: &mut [u32], v: usize)
 // Counts the nodes in each slot.
 fn occupy(parent: &[u32], rank: &[u32], work: &mut [u32])
     requires { ⌜ Scratch (now parent) (now work) × (length (now rank) ≡ length (now parent)) ⌝ }
-    requires { ⌜ Started (now parent) (now work) × Zeroed (length (now parent) + 1) (2 * length (now parent)) (now work) ⌝ }
-    ensures { λ _. ⌜ Occupied (now (parent .entry)) (now (rank .entry)) (now (work .exit)) × Only (length (now (parent .entry)) + 1) (2 * length (now (parent .entry))) (now (work .entry)) (now (work .exit)) ⌝ }
+    requires { ⌜ Started (now parent) (now work)
+        × Zeroed (length (now parent) + 1) (2 * length (now parent)) (now work) ⌝ }
+    ensures { λ _. ⌜ Occupied (now (parent .entry)) (now (rank .entry)) (now (work .exit))
+        × Only (length (now (parent .entry)) + 1) (2 * length (now (parent .entry))) (now (work .entry))
+        (now (work .exit)) ⌝ }
 {
     let n = parent.len();
     let mut v = 1;
@@ -182,7 +193,8 @@ fn bad_rank(parent: &[u32], rank: &[u32], work: &[u32]) -> usize
 // How many steps lead from v up to a marked node: more than n where n steps do not.
 fn steps(parent: &[u32], work: &[u32], v: usize) -> usize
     requires { ⌜ Scratch (now parent) (now work) × (v < length (now parent)) ⌝ }
-    ensures { λ r. ⌜ r ≡ least (λ k. marked (now (parent .entry)) (now (work .entry)) (climb (now (parent .entry)) k v)) (length (now (parent .entry)) + 1) ⌝ }
+    ensures { λ r. ⌜ r ≡ least (λ k. marked (now (parent .entry)) (now (work .entry))
+        (climb (now (parent .entry)) k v)) (length (now (parent .entry)) + 1) ⌝ }
 {
     let n = parent.len();
     let mut u = v;
@@ -200,8 +212,10 @@ fn steps(parent: &[u32], work: &[u32], v: usize) -> usize
 // Marks the first k nodes on the way up from v, which leads to a marked one.
 fn mark(parent: &[u32], work: &mut [u32], v: usize, k: usize)
     requires { ⌜ Reaching (now parent) (now work) v k ⌝ }
-    ensures { λ _. ⌜ Marking (now (parent .entry)) (now (work .exit)) × (marked (now (parent .entry)) (now (work .exit)) v ≡ true) ⌝ }
-    ensures { λ _. ⌜ Only (length (now (parent .entry)) + 1) (2 * length (now (parent .entry))) (now (work .entry)) (now (work .exit)) ⌝ }
+    ensures { λ _. ⌜ Marking (now (parent .entry)) (now (work .exit))
+        × (marked (now (parent .entry)) (now (work .exit)) v ≡ true) ⌝ }
+    ensures { λ _. ⌜ Only (length (now (parent .entry)) + 1) (2 * length (now (parent .entry))) (now (work .entry))
+        (now (work .exit)) ⌝ }
 {
     let n = parent.len();
     let mut u = v;
@@ -215,8 +229,11 @@ fn mark(parent: &[u32], work: &mut [u32], v: usize, k: usize)
 
 // The smallest node with refusal 7, or n.
 fn drifting(parent: &[u32], work: &mut [u32]) -> usize
-    requires { ⌜ Scratch (now parent) (now work) × Started (now parent) (now work) × Zeroed (length (now parent) + 1) (2 * length (now parent)) (now work) ⌝ }
-    ensures { λ r. ⌜ (r ≡ least (adrift (now (parent .entry))) (length (now (parent .entry)))) × Only (length (now (parent .entry)) + 1) (2 * length (now (parent .entry))) (now (work .entry)) (now (work .exit)) ⌝ }
+    requires { ⌜ Scratch (now parent) (now work) × Started (now parent) (now work)
+        × Zeroed (length (now parent) + 1) (2 * length (now parent)) (now work) ⌝ }
+    ensures { λ r. ⌜ (r ≡ least (adrift (now (parent .entry))) (length (now (parent .entry))))
+        × Only (length (now (parent .entry)) + 1) (2 * length (now (parent .entry))) (now (work .entry))
+        (now (work .exit)) ⌝ }
 {
     let n = parent.len();
     let mut v = 1;
@@ -263,7 +280,8 @@ pub fn validate(
     long: bool,
     work: &mut [u32],
 ) -> Validity
-    ensures { λ r. ⌜ Validated limits (now (parent .entry)) (now (rank .entry)) long (now (work .entry)) (now (work .exit)) r ⌝ }
+    ensures { λ r. ⌜ Validated limits (now (parent .entry)) (now (rank .entry)) long (now (work .entry))
+        (now (work .exit)) r ⌝ }
 {
     let n = parent.len();
     let most = limits.nodes as usize;
@@ -340,7 +358,8 @@ fn next(parent: &[u32], rank: &[u32], work: &[u32], v: usize) -> usize
 
 // Notes v as number c + 1, with its subtree's first number: its first child's, or its own at a leaf.
 fn visit(parent: &[u32], rank: &[u32], work: &mut [u32], v: usize, c: usize)
-    requires { ⌜ Visited (now parent) (now rank) (now work) c × (v < length (now parent)) × (postNumber (now parent) (now rank) v ≡ c + 1) ⌝ }
+    requires { ⌜ Visited (now parent) (now rank) (now work) c × (v < length (now parent))
+        × (postNumber (now parent) (now rank) v ≡ c + 1) ⌝ }
     ensures { λ _. ⌜ Visited (now (parent .entry)) (now (rank .entry)) (now (work .exit)) (c + 1) ⌝ }
 {
     let n = parent.len();
@@ -358,7 +377,8 @@ fn visit(parent: &[u32], rank: &[u32], work: &mut [u32], v: usize, c: usize)
 // Visits every node in post-order.
 fn walk(parent: &[u32], rank: &[u32], work: &mut [u32])
     requires { ⌜ Seated (now parent) (now rank) (now work) ⌝ }
-    ensures { λ _. ⌜ Visited (now (parent .entry)) (now (rank .entry)) (now (work .exit)) (length (now (parent .entry))) ⌝ }
+    ensures { λ _. ⌜ Visited (now (parent .entry)) (now (rank .entry)) (now (work .exit))
+        (length (now (parent .entry))) ⌝ }
 {
     let n = parent.len();
     let mut v = leaf(parent, rank, work, 0);

@@ -1,13 +1,15 @@
 -- Writing a number from its first digit on: what stands is the number without its last digits, d says how many.
 use mathlib.Core.List.{List, [], _∷_, _++_, append-nil, append-assoc}
 use mathlib.Core.Path.{_≡_, refl, sym, ap, _∙_}
-use Prim.Native.Nat.{ℕ, zero, suc, _+_, _-_, _*_, _/_, _%_, _^_, _≤_, _<_}
-use native.Mathlib.Nat.{pow-suc, one-le-pow, div-one, div-le-self, div-div-eq-div-mul, le-div-iff-mul-le, div-lt-iff-lt-mul}
+use Prim.Native.Nat.{ℕ, zero, suc, _+_, _*_, _/_, _%_, _^_, _≤_, _<_}
+use native.Mathlib.Nat.{pow-suc, one-le-pow, div-one, div-le-self, div-div-eq-div-mul, le-div-iff-mul-le}
+use native.Mathlib.Nat.{div-lt-iff-lt-mul}
 use native.Mathlib.Omega.{arith}
 use lib.ListN.{length, length-append}
 use Rattle.laws.specs.Tests.{by-lt}
 use Rattle.text.specs.Text.{decimal, Appended}
-use Rattle.text.specs.TextLaws.{decimal-one, decimal-last, length-decimal, appended-none, appended-on, appended-is}
+use Rattle.text.specs.TextLaws.{decimal-one, decimal-last, length-decimal, appended-none, appended-on}
+use Rattle.text.specs.TextLaws.{appended-is}
 use Rattle.text.specs.Writing.{Power, Unit}
 
 ------------------------------------------------------------------------

@@ -4,7 +4,7 @@
 use table::get;
 ghost use mathlib.Core.List.{[], _∷_};
 ghost use mathlib.Core.Path.{_≡_};
-ghost use Prim.Native.Nat.{ℕ, _+_, _*_, _/_, _%_, _^_, _≤_, _<_};
+ghost use Prim.Native.Nat.{_+_, _*_, _/_, _%_, _^_, _≤_, _<_};
 ghost use lib.ListN.{length};
 ghost use Rattle.text.specs.Text.{decimal, field, lotLines, sheetOf, refusalOf, Appended};
 ghost use Rattle.text.specs.Writing.{Unit, lineOf, titleOf, placesOf, Lines};
@@ -79,7 +79,8 @@ fn put_field(out: &mut [u8], at: usize, n: usize, after: u8) -> usize
 
 // Puts the line of a lot: five numbers.
 fn put_line(out: &mut [u8], at: usize, v: usize, a: usize, b: usize, c: usize, d: usize) -> usize
-    requires { ⌜ (at + 55 ≤ length (now out)) × (v < 10 ^ 10) × (a < 10 ^ 10) × (b < 10 ^ 10) × (c < 10 ^ 10) × (d < 10 ^ 10) ⌝ }
+    requires { ⌜ (at + 55 ≤ length (now out)) × (v < 10 ^ 10) × (a < 10 ^ 10) × (b < 10 ^ 10) × (c < 10 ^ 10)
+        × (d < 10 ^ 10) ⌝ }
     ensures { λ r. ⌜ Appended (now (out .entry)) (now (out .exit)) at r (lineOf v a b c d) ⌝ }
 {
     let first = put_field(out, at, v, b' ');
@@ -111,7 +112,9 @@ fn put_title(out: &mut [u8], n: usize) -> usize
 // Puts the lines of all lots.
 fn put_lines(out: &mut [u8], at: usize, x: &[u32], y: &[u32], u: &[u32], w: &[u32]) -> usize
     requires { ⌜ Lines (placesOf (now x) (now y) (now u) (now w)) (length (now x)) (now out) at ⌝ }
-    ensures { λ r. ⌜ Appended (now (out .entry)) (now (out .exit)) at r (lotLines (placesOf (now (x .entry)) (now (y .entry)) (now (u .entry)) (now (w .entry))) (length (now (x .entry)))) ⌝ }
+    ensures { λ r. ⌜ Appended (now (out .entry)) (now (out .exit)) at r
+        (lotLines (placesOf (now (x .entry)) (now (y .entry)) (now (u .entry)) (now (w .entry)))
+        (length (now (x .entry)))) ⌝ }
 {
     let n = x.len();
     let mut e = at;
@@ -126,7 +129,9 @@ fn put_lines(out: &mut [u8], at: usize, x: &[u32], y: &[u32], u: &[u32], w: &[u3
 // Puts the text of a sheet at the start and returns its length: x and y are the steep places, u and w the balanced ones.
 pub fn put_sheet(out: &mut [u8], x: &[u32], y: &[u32], u: &[u32], w: &[u32]) -> usize
     requires { ⌜ Lines (placesOf (now x) (now y) (now u) (now w)) (length (now x)) (now out) 17 ⌝ }
-    ensures { λ r. ⌜ Appended (now (out .entry)) (now (out .exit)) 0 r (sheetOf (placesOf (now (x .entry)) (now (y .entry)) (now (u .entry)) (now (w .entry))) (length (now (x .entry)))) ⌝ }
+    ensures { λ r. ⌜ Appended (now (out .entry)) (now (out .exit)) 0 r
+        (sheetOf (placesOf (now (x .entry)) (now (y .entry)) (now (u .entry)) (now (w .entry)))
+        (length (now (x .entry)))) ⌝ }
 {
     let e = put_title(out, x.len());
     put_lines(out, e, x, y, u, w)

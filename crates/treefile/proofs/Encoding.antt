@@ -1,29 +1,27 @@
 -- Writing numbers as bytes, and the whole file.
-use mathlib.Core.Bool.{Bool, true, false, not}
-use mathlib.Core.List.{List, [], _∷_, _++_}
-use mathlib.Core.Option.{Option, none, some}
+use mathlib.Core.Bool.{true, not}
+use mathlib.Core.List.{List, _∷_, _++_}
+use mathlib.Core.Option.{Option, none}
 use mathlib.Core.Path.{_≡_, refl, sym, ap, _∙_}
-use Prim.Native.Nat.{ℕ, zero, suc, _+_, _-_, _*_, _/_, _%_, _^_, _≤_, _<_}
+use Prim.Native.Nat.{ℕ, zero, suc, _+_, _-_, _*_, _/_, _%_, _≤_, _<_}
 use native.Mathlib.Omega.{arith}
-use lib.Dec.{eqb}
 use lib.ListN.{length, getD, set, length-set, length-append, List·getD-append}
 use lib.Seq.{ext-getD, getD-append-add, getD-set-same, getD-set-other}
 use borrow.Author.Tests.{eq-eqb, ne-eqb}
-use Rattle.laws.specs.Refusals.{refusal, some-not-none, orElse-first, orElse-second, refuse-yes, refuse-no}
+use Rattle.laws.specs.Refusals.{orElse-first, orElse-second, refuse-yes, refuse-no}
 use Rattle.laws.specs.Regions.{Only, only-refl, only-set, only-trans, only-within}
-use Rattle.laws.specs.Search.{Refusal, refuse, _orElse_}
+use Rattle.laws.specs.Search.{Refusal}
 use Rattle.laws.specs.Tests.{by-lt}
 use Rattle.table.specs.Acceptance.{validity-accepted, validity-refused, Accepting, accepting}
 use Rattle.table.specs.declared.Limits.{Limits}
 use Rattle.table.specs.declared.Validity.{Validity}
 use Rattle.table.specs.declared.Validity.the-variants.{Accepted, Refused}
-use Rattle.table.specs.Table.{shapeFault, tableFault, validity}
+use Rattle.table.specs.Table.{tableFault}
 use Rattle.table.specs.Work.{Validated}
 use Rattle.treefile.specs.Bytes.{WordPut, Encoded, Wrote}
-use Rattle.treefile.specs.declared.Saved.{Saved}
 use Rattle.treefile.specs.declared.Saved.the-variants.{Bytes, Unsaved}
 use Rattle.treefile.specs.FileLaws.{by-four, length-allBytes, byte-at}
-use Rattle.treefile.specs.TreeFile.{bytesOf, allBytes, fileOf, Written, saved, writeTree}
+use Rattle.treefile.specs.TreeFile.{bytesOf, allBytes, fileOf, saved, writeTree}
 
 pub word-put : (B : List ℕ) (i w : ℕ) → i + 3 < length B
     → WordPut B (set (set (set (set B i (w % 256)) (i + 1) (w / 256 % 256)) (i + 2) (w / 65536 % 256)) (i + 3)

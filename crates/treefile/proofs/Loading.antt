@@ -1,12 +1,12 @@
 -- Loading: the lists hold the file's table, the work list what they held before, and a refusal brings that back.
 use mathlib.Core.Bool.{true}
 use mathlib.Core.List.{List}
-use mathlib.Core.Option.{Option, none, some}
-use mathlib.Core.Path.{_≡_, refl, sym, ap, ap₂, subst, _∙_}
-use Prim.Native.Nat.{ℕ, _+_, _*_, _≤_, _<_}
+use mathlib.Core.Option.{Option, some}
+use mathlib.Core.Path.{_≡_, refl, sym, ap, ap₂, _∙_}
+use Prim.Native.Nat.{ℕ, _+_, _*_, _≤_}
 use native.Mathlib.Omega.{arith}
 use lib.ListN.{length, getD}
-use Rattle.laws.specs.Refusals.{refusal, orElse-second}
+use Rattle.laws.specs.Refusals.{orElse-second}
 use Rattle.laws.specs.Regions.{Only}
 use Rattle.laws.specs.Search.{Refusal}
 use Rattle.laws.specs.SearchLaws.{length-tabulate}
@@ -14,12 +14,11 @@ use Rattle.table.specs.Acceptance.{Shape, shape-fits, validity-accepted, validi
 use Rattle.table.specs.declared.Limits.{Limits}
 use Rattle.table.specs.declared.Validity.{Validity}
 use Rattle.table.specs.declared.Validity.the-variants.{Accepted}
-use Rattle.table.specs.Table.{shapeFault, treeFault, tableFault, validity}
+use Rattle.table.specs.Table.{treeFault, tableFault}
 use Rattle.table.specs.Work.{Validated}
 use Rattle.treefile.specs.Bytes.{Copied, Opened, Checked}
-use Rattle.treefile.specs.declared.Loaded.{Loaded}
 use Rattle.treefile.specs.declared.Loaded.the-variants.{Table, Refused}
-use Rattle.treefile.specs.TreeFile.{wordAt, words, statedNodes, fileParents, fileRanks, Lists, loaded}
+use Rattle.treefile.specs.TreeFile.{wordAt, words, fileParents, fileRanks, loaded}
 use Rattle.treefile.proofs.Copies.{restored}
 
 pub length-words : (B : List ℕ) (i n : ℕ) → length (words B i n) ≡ n

@@ -1,5 +1,5 @@
 -- Refusals 16, 1, 2, 17 and 3: what each test says of the definition.
-use mathlib.Core.Bool.{Bool, true, false, not, _&&_, and-false}
+use mathlib.Core.Bool.{false, not, _&&_, and-false}
 use mathlib.Core.List.{List}
 use mathlib.Core.Option.{Option, none, some}
 use mathlib.Core.Path.{_≡_, refl, sym, ap, _∙_}
@@ -9,14 +9,13 @@ use lib.Dec.{ltb, eqb}
 use lib.ListN.{length}
 use borrow.Author.Tests.{lt-ltb, le-ltb, eq-eqb, ne-eqb}
 use Rattle.laws.specs.Refusals.{refusal, some-not-none, orElse-first, orElse-second, refuse-yes, refuse-no}
-use Rattle.laws.specs.Search.{Refusal, refuse, _orElse_}
+use Rattle.laws.specs.Search.{Refusal, refuse}
 use Rattle.laws.specs.Tests.{both-is}
 use Rattle.table.specs.declared.Limits.{Limits}
-use Rattle.table.specs.Table.{treeFault}
 use Rattle.treefile.specs.Bytes.{Opened, Checked, Read}
 use Rattle.treefile.specs.declared.Loaded.{Loaded}
-use Rattle.treefile.specs.declared.Loaded.the-variants.{Table, Refused}
-use Rattle.treefile.specs.TreeFile.{wordAt, statedNodes, fileParents, fileRanks, openFault, Lists, loaded, readTree}
+use Rattle.treefile.specs.declared.Loaded.the-variants.{Refused}
+use Rattle.treefile.specs.TreeFile.{wordAt, statedNodes, openFault, loaded, readTree}
 
 module _ (L : Limits) (B P R W : List ℕ) where
   shut : {k v : ℕ} → openFault L B (length P) (length R) (length W) ≡ refusal k v → Read L B P R W P R W (Refused k v)

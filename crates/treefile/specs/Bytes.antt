@@ -17,7 +17,8 @@ use Rattle.table.specs.declared.Limits.{Limits}
 use Rattle.table.specs.Table.{shapeFault, treeFault}
 use Rattle.treefile.specs.declared.Loaded.{Loaded}
 use Rattle.treefile.specs.declared.Saved.{Saved}
-use Rattle.treefile.specs.TreeFile.{bytesOf, statedNodes, fileParents, fileRanks, openFault, Lists, loaded, readTree, Written, writeTree}
+use Rattle.treefile.specs.TreeFile.{bytesOf, statedNodes, fileParents, fileRanks, openFault, loaded, readTree}
+use Rattle.treefile.specs.TreeFile.{writeTree}
 
 pub record Copied (l W : List ℕ) (at : ℕ) : Type 0 where
   pub same : (i : ℕ) → i < length l → getD W (at + i) 0 ≡ getD l i 0

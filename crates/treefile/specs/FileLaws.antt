@@ -15,14 +15,15 @@ use lib.ListN.{length, getD, length-append, List·getD-append}
 use lib.Seq.{ext-getD, getD-append-add}
 use borrow.Author.Tests.{eqb-true, not-false, le-ltb, eq-eqb, ne-eqb}
 use Rattle.laws.specs.Refusals.{orElse-second, orElse-none, refuse-no, refuse-none}
-use Rattle.laws.specs.Search.{tabulate, Refusal, refuse, _orElse_}
+use Rattle.laws.specs.Search.{Refusal, refuse, _orElse_}
 use Rattle.laws.specs.SearchLaws.{length-tabulate, getD-tabulate, tabulate-is}
 use Rattle.laws.specs.Tests.{by-lt, both-is}
 use Rattle.table.specs.Acceptance.{accepting}
 use Rattle.table.specs.declared.Limits.{Limits}
 use Rattle.table.specs.Table.{shapeFault, treeFault, tableFault}
 use Rattle.treefile.specs.declared.Loaded.the-variants.{Table, Refused}
-use Rattle.treefile.specs.TreeFile.{wordAt, words, bytesOf, allBytes, statedNodes, fileParents, fileRanks, fileOf, openFault, Lists, loaded, readTree}
+use Rattle.treefile.specs.TreeFile.{wordAt, words, bytesOf, allBytes, statedNodes, fileParents, fileRanks}
+use Rattle.treefile.specs.TreeFile.{fileOf, openFault, Lists, loaded, readTree}
 
 ------------------------------------------------------------------------
 -- Four bytes

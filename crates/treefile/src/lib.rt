@@ -2,7 +2,7 @@
 use table::Limits;
 use table::Validity;
 ghost use mathlib.Core.Path.{_≡_};
-ghost use Prim.Native.Nat.{ℕ, _+_, _*_, _^_, _≤_, _<_};
+ghost use Prim.Native.Nat.{_+_, _*_, _^_, _≤_, _<_};
 ghost use lib.ListN.{length, getD};
 ghost use Rattle.laws.specs.Regions.{Only};
 ghost use Rattle.table.specs.Table.{large};
@@ -56,7 +56,8 @@ fn decode(bytes: &[u8], a: usize, list: &mut [u32])
 // Copies the list into the work list from a on.
 fn save(list: &[u32], work: &mut [u32], a: usize)
     requires { ⌜ a + length (now list) ≤ length (now work) ⌝ }
-    ensures { λ _. ⌜ Copied (now (list .entry)) (now (work .exit)) a × Only a (a + length (now (list .entry))) (now (work .entry)) (now (work .exit)) ⌝ }
+    ensures { λ _. ⌜ Copied (now (list .entry)) (now (work .exit)) a
+        × Only a (a + length (now (list .entry))) (now (work .entry)) (now (work .exit)) ⌝ }
 {
     let n = list.len();
     let mut i = 0;
@@ -70,7 +71,8 @@ fn save(list: &[u32], work: &mut [u32], a: usize)
 // Copies the work list from a on back into the list.
 fn restore(work: &[u32], a: usize, list: &mut [u32])
     requires { ⌜ a + length (now list) ≤ length (now work) ⌝ }
-    ensures { λ _. ⌜ Copied (now (list .exit)) (now (work .entry)) a × (length (now (list .exit)) ≡ length (now (list .entry))) ⌝ }
+    ensures { λ _. ⌜ Copied (now (list .exit)) (now (work .entry)) a
+        × (length (now (list .exit)) ≡ length (now (list .entry))) ⌝ }
 {
     let n = list.len();
     let mut i = 0;
@@ -91,7 +93,8 @@ fn load(
     work: &mut [u32],
 ) -> Loaded
     requires { ⌜ Opened limits (now bytes) (now parent) (now rank) (now work) ⌝ }
-    ensures { λ r. ⌜ Checked (now (bytes .entry)) (now (parent .entry)) (now (rank .entry)) (now (parent .exit)) (now (rank .exit)) r ⌝ }
+    ensures { λ r. ⌜ Checked (now (bytes .entry)) (now (parent .entry)) (now (rank .entry)) (now (parent .exit))
+        (now (rank .exit)) r ⌝ }
 {
     let n = parent.len();
     save(parent, work, 2 * n);
@@ -117,7 +120,8 @@ pub fn read_tree_within(
     rank: &mut [u32],
     work: &mut [u32],
 ) -> Loaded
-    ensures { λ r. ⌜ Read limits (now (bytes .entry)) (now (parent .entry)) (now (rank .entry)) (now (work .entry)) (now (parent .exit)) (now (rank .exit)) (now (work .exit)) r ⌝ }
+    ensures { λ r. ⌜ Read limits (now (bytes .entry)) (now (parent .entry)) (now (rank .entry)) (now (work .entry))
+        (now (parent .exit)) (now (rank .exit)) (now (work .exit)) r ⌝ }
 {
     if bytes.len() < 4 {
         return Loaded::Refused(16, 0);
@@ -179,7 +183,8 @@ pub fn write_tree_within(
     bytes: &mut [u8],
     work: &mut [u32],
 ) -> Saved
-    ensures { λ r. ⌜ Wrote limits (now (parent .entry)) (now (rank .entry)) (now (bytes .entry)) (now (work .entry)) (now (bytes .exit)) (now (work .exit)) r ⌝ }
+    ensures { λ r. ⌜ Wrote limits (now (parent .entry)) (now (rank .entry)) (now (bytes .entry)) (now (work .entry))
+        (now (bytes .exit)) (now (work .exit)) r ⌝ }
 {
     let n = parent.len();
     match table::validate(limits, parent, rank, true, work) {
@@ -198,7 +203,8 @@ pub fn write_tree_within(
 
 // Reads a tree file of at most 65,536 nodes.
 pub fn read_tree(bytes: &[u8], parent: &mut [u32], rank: &mut [u32], work: &mut [u32]) -> Loaded
-    ensures { λ r. ⌜ Read large (now (bytes .entry)) (now (parent .entry)) (now (rank .entry)) (now (work .entry)) (now (parent .exit)) (now (rank .exit)) (now (work .exit)) r ⌝ }
+    ensures { λ r. ⌜ Read large (now (bytes .entry)) (now (parent .entry)) (now (rank .entry)) (now (work .entry))
+        (now (parent .exit)) (now (rank .exit)) (now (work .exit)) r ⌝ }
 {
     let limits = table::large_limits();
     read_tree_within(limits, bytes, parent, rank, work)
@@ -206,7 +212,8 @@ pub fn read_tree(bytes: &[u8], parent: &mut [u32], rank: &mut [u32], work: &mut 
 
 // Writes the file of an accepted table of at most 65,536 nodes.
 pub fn write_tree(parent: &[u32], rank: &[u32], bytes: &mut [u8], work: &mut [u32]) -> Saved
-    ensures { λ r. ⌜ Wrote large (now (parent .entry)) (now (rank .entry)) (now (bytes .entry)) (now (work .entry)) (now (bytes .exit)) (now (work .exit)) r ⌝ }
+    ensures { λ r. ⌜ Wrote large (now (parent .entry)) (now (rank .entry)) (now (bytes .entry)) (now (work .entry))
+        (now (bytes .exit)) (now (work .exit)) r ⌝ }
 {
     let limits = table::large_limits();
     write_tree_within(limits, parent, rank, bytes, work)

@@ -1,7 +1,7 @@
 -- One node may be in the other's subtree; otherwise both climb to the children of their lowest common ancestor.
 use borrow.Author.Needs.{needs}
 use mathlib.Core.Path.{sym, _∙_}
-use Rattle.direction.specs.Direction.{edgeSlope}
+use Rattle.slopes.specs.Slopes.{edge}
 use Rattle.direction.proofs.Headings.{pair-back, heading-down, heading-up, side-edges, heading-side}
 use Rattle.direction.proofs.heading_of.Statement.{statement}
 use Rattle.direction.proofs.heading_of.Tie as tie
@@ -14,7 +14,7 @@ returns c =
     let at-down = c .before in
     let entry = at-down .before .before .before .before in
     heading-down (entry .pre .0) (entry .pre .1) (at-down .in-subtree .ensures)
-    (edgeSlope (entry .args .parent .now) (entry .args .rank .now) (entry .args .rule)) (c .if1 .taken)
+    (edge (entry .args .parent .now) (entry .args .rank .now) (entry .args .rule)) (c .if1 .taken)
 
 in-subtree-requires-2 : tie.Need-in-subtree-requires-2
 in-subtree-requires-2 c κs = search needs
@@ -27,7 +27,7 @@ returns-2 c =
     let entry = at-down .before .before .before .before in
     heading-up (entry .pre .0) (entry .pre .1) (at-down .in-subtree .ensures) (not-down .if1 .left)
     (at-up .in-subtree2 .ensures)
-    (edgeSlope (entry .args .parent .now) (entry .args .rank .now) (entry .args .rule)) (c .if2 .taken)
+    (edge (entry .args .parent .now) (entry .args .rank .now) (entry .args .rule)) (c .if2 .taken)
 
 below-meeting-requires : tie.Need-below-meeting-requires
 below-meeting-requires c κs =
@@ -69,7 +69,7 @@ returns-3 c =
     let entry = at-down .before .before .before .before in
     heading-side (entry .pre .0) (entry .pre .1) (at-down .in-subtree .ensures) (not-down .if1 .left)
     (at-up .in-subtree2 .ensures) (not-up .if2 .left) (at-p .below-meeting .ensures) (at-q .below-meeting2 .ensures)
-    (edgeSlope (entry .args .parent .now) (entry .args .rank .now) (entry .args .rule)) (c .sideways-of .ensures)
+    (edge (entry .args .parent .now) (entry .args .rank .now) (entry .args .rule)) (c .sideways-of .ensures)
 
 pub heading-of-spec : {M : Type 1} → statement M
 heading-of-spec =

@@ -1,6 +1,6 @@
 -- Ranks decide to which side the sum of two slopes is turned, and of which nodes they are.
 use borrow.Author.Needs.{needs}
-use Rattle.direction.specs.Direction.{edgeSlope}
+use Rattle.slopes.specs.Slopes.{edge}
 use Rattle.direction.proofs.Headings.{sideways-left, sideways-right}
 use Rattle.direction.proofs.sideways_of.Statement.{statement}
 use Rattle.direction.proofs.sideways_of.Tie as tie
@@ -28,7 +28,7 @@ returns c =
     let rank-q = at-if .before in
     let rank-p = rank-q .before in
     let args = rank-p .before .before .before .before .args in
-    sideways-left (args .rank .now) (edgeSlope (args .parent .now) (args .rank .now) (args .rule)) (args .u) (args .v)
+    sideways-left (args .rank .now) (edge (args .parent .now) (args .rank .now) (args .rule)) (args .u) (args .v)
     (args .p) (args .q)
     (rank-p .get .ensures .0) (rank-q .get2 .ensures .0) (at-if .if1 .taken)
     (at-p .edge-slope .ensures .0) (at-v .edge-slope2 .ensures .0) (c .turned .ensures)
@@ -50,7 +50,7 @@ returns-2 c =
     let rank-q = at-if .before in
     let rank-p = rank-q .before in
     let args = rank-p .before .before .before .before .args in
-    sideways-right (args .rank .now) (edgeSlope (args .parent .now) (args .rank .now) (args .rule)) (args .u) (args .v)
+    sideways-right (args .rank .now) (edge (args .parent .now) (args .rank .now) (args .rule)) (args .u) (args .v)
     (args .p) (args .q)
     (rank-p .get .ensures .0) (rank-q .get2 .ensures .0) (at-if .if1 .left)
     (at-q .edge-slope3 .ensures .0) (at-u .edge-slope4 .ensures .0) (c .turned2 .ensures)

@@ -1,6 +1,5 @@
 -- The check at document 01's limits.
 use borrow.Author.Needs.{needs}
-use Rattle.monotone.proofs.Judging.{untouched}
 use Rattle.monotone.proofs.check.Statement.{statement}
 use Rattle.monotone.proofs.check.Tie as tie
 
@@ -11,9 +10,7 @@ same-length : tie.Need-same-length
 same-length c = search needs
 
 returns : tie.Need-returns
-returns c =
-    let checked = c .before .before .check-within in
-    (checked .ensures .says, untouched (checked .result) (checked .ensures))
+returns c = c .before .before .check-within .ensures
 
 pub check-spec : {M : Type 1} → statement M
 check-spec = tie.close (tie.spec check-within-requires same-length returns)

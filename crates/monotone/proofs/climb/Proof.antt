@@ -8,7 +8,8 @@ use Rattle.laws.specs.Regions.{Only, only-store}
 use Rattle.table.specs.Ancestry.{depth, depth-parent}
 use Rattle.monotone.specs.Cones.{Edges}
 use Rattle.monotone.proofs.Turning.{turning-edges}
-use Rattle.monotone.proofs.Climbing.{Climbing, climbing-start, climbing-turned, climbing-step, climbing-end, edges-kept}
+use Rattle.monotone.proofs.Climbing.{Climbing, climbing-start, climbing-turned, climbing-step, climbing-end}
+use Rattle.monotone.proofs.Climbing.{edges-kept}
 use Rattle.monotone.proofs.climb.Statement.{statement}
 use Rattle.monotone.proofs.climb.Tie as tie
 

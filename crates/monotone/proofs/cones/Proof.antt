@@ -1,14 +1,11 @@
 -- The list is cleared, climbed, spread over and turned back; each step says which region it leaves alone.
 use mathlib.Core.List.{List}
-use mathlib.Core.Path.{ap, subst, subst⁻¹, _∙_}
-use Prim.Native.Nat.{ℕ, _-_}
+use mathlib.Core.Path.{subst, subst⁻¹, _∙_}
+use Prim.Native.Nat.{ℕ}
 use native.Mathlib.Omega.{arith}
-use lib.ListN.{length}
-use Rattle.laws.specs.Regions.{Only}
-use Rattle.table.specs.Work.{Zeroed}
-use Rattle.monotone.specs.Rows.{WithEdges, Row, Reached, Ordered, Visited, Coned}
-use Rattle.monotone.specs.Cones.{edgeAt}
-use Rattle.monotone.proofs.Spreading.{Spreading, spreading-start, spreading-reached, spreading-step, node-in, coned, ordered-kept, edges-stay, edges-away}
+use Rattle.monotone.specs.Rows.{WithEdges, Reached, Ordered, Visited, Coned}
+use Rattle.monotone.proofs.Spreading.{Spreading, spreading-start, spreading-reached, spreading-step, coned}
+use Rattle.monotone.proofs.Spreading.{ordered-kept, edges-stay, edges-away}
 use Rattle.monotone.proofs.cones.Statement.{statement}
 use Rattle.monotone.proofs.cones.Tie as tie
 

@@ -1,15 +1,13 @@
 -- Every pair before the loops' place has a direction; the first cone that is 2 is that of the first pair that has none.
-use mathlib.Core.Path.{_≡_, refl, sym, subst⁻¹, _∙_}
-use mathlib.Core.List.{List}
-use Prim.Native.Nat.{ℕ, _-_, _<_}
+use mathlib.Core.Path.{refl, sym, subst⁻¹, _∙_}
+use Prim.Native.Nat.{_-_, _<_}
 use native.Mathlib.Omega.{arith}
 use lib.ListN.{length}
 use Rattle.laws.specs.Regions.{Only, only-refl, only-trans}
-use Rattle.monotone.specs.declared.Verdict.{Verdict}
-use Rattle.monotone.specs.declared.Verdict.the-variants.{Monotone}
-use Rattle.monotone.specs.Rows.{WithEdges, Ordered, Found}
+use Rattle.monotone.specs.Rows.{Found}
 use Rattle.monotone.proofs.Spreading.{edges-stay, ordered-kept}
-use Rattle.monotone.proofs.Deciding.{OverRows, OverRow, passed-none, clear-more, passed-row, first-turn, all-passed}
+use Rattle.monotone.proofs.Deciding.{OverRows, OverRow, passed-none, clear-more, passed-row, first-turn}
+use Rattle.monotone.proofs.Deciding.{all-passed}
 use Rattle.monotone.proofs.pairs.Statement.{statement}
 use Rattle.monotone.proofs.pairs.Tie as tie
 

@@ -1,6 +1,6 @@
 -- The number is between 1 and 2^32 - 1, so without 2^31 it is a difference of two places.
 use mathlib.Core.Path.{_∙_, ap}
-use lib.IntN.{ℤ, pos, _-ℤ_}
+use lib.IntN.{pos, _-ℤ_}
 use Prim.Native.Nat.{ℕ, _≤_}
 use native.Mathlib.Omega.{arith}
 use borrow.Author.Needs.{needs}

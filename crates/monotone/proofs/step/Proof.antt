@@ -3,7 +3,8 @@ use mathlib.Core.Path.{_≡_}
 use lib.IntN.{pos}
 use borrow.Author.Needs.{needs}
 use Rattle.laws.specs.Signs.{≤≥}
-use Rattle.monotone.specs.Plane.{cross, high, low, keep-high, keep-low, keep-along, against-low, against-high, against-along}
+use Rattle.monotone.specs.Plane.{cross, high, low, keep-high, keep-low, keep-along, against-low, against-high}
+use Rattle.monotone.specs.Plane.{against-along}
 use Rattle.monotone.specs.Cones.{vec}
 use Rattle.monotone.proofs.Wide.{above-yes, above-no, below-yes, below-no}
 use Rattle.monotone.proofs.step.Statement.{statement}

@@ -2,7 +2,7 @@
 use mathlib.Core.Path.{refl, sym, ap, subst, subst⁻¹, _∙_}
 use Prim.Native.Nat.{ℕ}
 use native.Mathlib.Omega.{arith}
-use lib.ListN.{length, getD, set}
+use lib.ListN.{length, getD}
 use borrow.Author.Needs.{needs}
 use Rattle.monotone.specs.Cones.{edgeAt, Formed, Grown}
 use Rattle.monotone.specs.Rows.{known, grown}

@@ -1,5 +1,4 @@
 -- The arrays have room, and what is written lies within the last one.
-use native.Mathlib.Omega.{arith}
 use Rattle.sheet.proofs.Room.{ample, text-long, text-within}
 use borrow.Author.Needs.{needs}
 use Rattle.sheet.proofs.main.Statement.{statement}
@@ -45,7 +44,8 @@ slice-aggregate-sheet-text-10 : tie.Need-slice-aggregate-sheet-text-10
 slice-aggregate-sheet-text-10 c = search needs
 
 sheet-text-requires : tie.Need-sheet-text-requires
-sheet-text-requires c κs = ample (search needs) (search needs) (search needs) (search needs) (search needs) (search needs) (search needs) (search needs) (search needs)
+sheet-text-requires c κs = ample (search needs) (search needs) (search needs) (search needs) (search needs)
+    (search needs) (search needs) (search needs) (search needs)
 
 array-share-prefix-out : tie.Need-array-share-prefix-out
 array-share-prefix-out c =

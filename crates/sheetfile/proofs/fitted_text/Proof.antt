@@ -1,6 +1,5 @@
 -- A refusal is printed; an accepted table is laid out under both rules.
 use mathlib.Core.Path.{sym, _∙_}
-use native.Mathlib.Omega.{arith}
 use Rattle.text.specs.TextLaws.{appended-is}
 use Rattle.sheetfile.specs.SheetFileLaws.{refused-text, taken}
 use Rattle.sheetfile.proofs.Showing.{drawn-fresh, both-lines, both-shown, at-limits}
@@ -31,16 +30,26 @@ layout-requires-2 c κs = search needs
 
 put-sheet-requires : tie.Need-put-sheet-requires
 put-sheet-requires c κs =
-    let at-layout2 = c .before .before .before .before .before .before .before .before .before .before .before .before .before in
-    let at-layout = at-layout2 .before .before .before .before .before .before .before .before .before .before .before .before .before .before .before in
+    let at-layout2 =
+    c .before .before .before .before .before .before .before .before .before .before .before .before .before in
+    let at-layout =
+    at-layout2 .before .before .before .before .before .before .before .before .before .before .before .before
+    .before .before .before in
     let at-enum-told = at-layout .before .before .before .before .before .before .before in
     let at-read-tree-within = at-enum-told .before .before .before .before .before .before .before .before in
     let at-sheet-limits = at-read-tree-within .before .before .before .before in
-    let at-entry = at-sheet-limits .before .before .before .before .before .before .before .before .before .before .before in
+    let at-entry =
+    at-sheet-limits .before .before .before .before .before .before .before .before .before .before .before in
     let read = at-read-tree-within .read-tree-within in
-    let table = taken (at-limits (at-sheet-limits .sheet-limits .ensures) (read .ensures)) (at-entry .pre .parent) (at-entry .pre .rank) (at-entry .pre .work) (at-enum-told .enum-told .given .1) in
-    let steep = drawn-fresh table (at-layout .layout .ensures) (at-entry .pre .times) (at-entry .pre .steep-x) (at-entry .pre .steep-y) (read .kept .1 .1 .1 .1 .0 ∙ at-entry .pre .work) in
-    let balanced = drawn-fresh table (at-layout2 .layout2 .ensures) (at-layout .layout .kept .1 .1 .1 .0 ∙ at-entry .pre .times) (at-entry .pre .balanced-x) (at-entry .pre .balanced-y)
+    let table =
+    taken (at-limits (at-sheet-limits .sheet-limits .ensures) (read .ensures)) (at-entry .pre .parent)
+    (at-entry .pre .rank) (at-entry .pre .work) (at-enum-told .enum-told .given .1) in
+    let steep =
+    drawn-fresh table (at-layout .layout .ensures) (at-entry .pre .times) (at-entry .pre .steep-x)
+    (at-entry .pre .steep-y) (read .kept .1 .1 .1 .1 .0 ∙ at-entry .pre .work) in
+    let balanced =
+    drawn-fresh table (at-layout2 .layout2 .ensures) (at-layout .layout .kept .1 .1 .1 .0 ∙ at-entry .pre .times)
+    (at-entry .pre .balanced-x) (at-entry .pre .balanced-y)
     (at-layout .layout .kept .1 .1 .1 .1 .1 .1 .0 ∙ read .kept .1 .1 .1 .1 .0 ∙ at-entry .pre .work) in
     both-lines table steep balanced (at-entry .pre .room)
 
@@ -62,18 +71,29 @@ returns c =
     let at-number = at-put-refusal .before .before .before in
     let at-read-tree-within = at-number .before .before .before .before .before .before .before .before in
     let at-sheet-limits = at-read-tree-within .before .before .before .before in
-    let at-entry = at-sheet-limits .before .before .before .before .before .before .before .before .before .before .before in
+    let at-entry =
+    at-sheet-limits .before .before .before .before .before .before .before .before .before .before .before in
     appended-is (at-put-refusal .put-refusal .ensures)
-    (sym (refused-text (at-limits (at-sheet-limits .sheet-limits .ensures) (at-read-tree-within .read-tree-within .ensures)) (at-entry .pre .parent) (at-entry .pre .rank) (at-entry .pre .work) (at-number .number .given .1)))
+    (sym (refused-text (at-limits (at-sheet-limits .sheet-limits .ensures)
+    (at-read-tree-within .read-tree-within .ensures)) (at-entry .pre .parent) (at-entry .pre .rank)
+    (at-entry .pre .work) (at-number .number .given .1)))
 
 same-length-5 : tie.Need-same-length-5
 same-length-5 c =
-    let at-read-tree-within = c .before .before .before .before .before .before .before .before .before .before .before .before .before .before .before .before .before .before .before .before .before .before .before .before .before .before .before .before .before .before .before .before .before .before .before .before .before .before .before .before .before .before .before .before .before .before in
+    let at-read-tree-within =
+    c .before .before .before .before .before .before .before .before .before .before .before .before .before
+    .before .before .before .before .before .before .before .before .before .before .before .before .before
+    .before .before .before .before .before .before .before .before .before .before .before .before
+    .before .before .before .before .before .before .before .before in
     at-read-tree-within .read-tree-within .kept .1 .1 .0
 
 same-length-6 : tie.Need-same-length-6
 same-length-6 c =
-    let at-read-tree-within = c .before .before .before .before .before .before .before .before .before .before .before .before .before .before .before .before .before .before .before .before .before .before .before .before .before .before .before .before .before .before .before .before .before .before .before .before .before .before .before .before .before .before .before .before .before .before in
+    let at-read-tree-within =
+    c .before .before .before .before .before .before .before .before .before .before .before .before .before
+    .before .before .before .before .before .before .before .before .before .before .before .before .before
+    .before .before .before .before .before .before .before .before .before .before .before .before
+    .before .before .before .before .before .before .before .before in
     at-read-tree-within .read-tree-within .kept .1 .1 .1 .0
 
 same-length-7 : tie.Need-same-length-7
@@ -93,10 +113,17 @@ same-length-11 c = search needs
 
 same-length-12 : tie.Need-same-length-12
 same-length-12 c =
-    let at-layout2 = c .before .before .before .before .before .before .before .before .before .before .before .before .before .before .before .before in
-    let at-layout = at-layout2 .before .before .before .before .before .before .before .before .before .before .before .before .before .before .before in
-    let at-read-tree-within = at-layout .before .before .before .before .before .before .before .before .before .before .before .before .before .before .before in
-    at-layout2 .layout2 .kept .1 .1 .1 .1 .1 .1 .0 ∙ at-layout .layout .kept .1 .1 .1 .1 .1 .1 .0 ∙ at-read-tree-within .read-tree-within .kept .1 .1 .1 .1 .0
+    let at-layout2 =
+    c .before .before .before .before .before .before .before .before .before .before .before .before .before
+    .before .before .before in
+    let at-layout =
+    at-layout2 .before .before .before .before .before .before .before .before .before .before .before .before
+    .before .before .before in
+    let at-read-tree-within =
+    at-layout .before .before .before .before .before .before .before .before .before .before .before .before
+    .before .before .before in
+    at-layout2 .layout2 .kept .1 .1 .1 .1 .1 .1 .0 ∙ at-layout .layout .kept .1 .1 .1 .1 .1 .1 .0
+    ∙ at-read-tree-within .read-tree-within .kept .1 .1 .1 .1 .0
 
 same-length-13 : tie.Need-same-length-13
 same-length-13 c = search needs
@@ -104,16 +131,27 @@ same-length-13 c = search needs
 returns-2 : tie.Need-returns-2
 returns-2 c =
     let at-put-sheet = c .before .before in
-    let at-layout2 = at-put-sheet .before .before .before .before .before .before .before .before .before .before .before .before .before .before in
-    let at-layout = at-layout2 .before .before .before .before .before .before .before .before .before .before .before .before .before .before .before in
+    let at-layout2 =
+    at-put-sheet .before .before .before .before .before .before .before .before .before .before .before .before
+    .before .before in
+    let at-layout =
+    at-layout2 .before .before .before .before .before .before .before .before .before .before .before .before
+    .before .before .before in
     let at-enum-told = at-layout .before .before .before .before .before .before .before in
     let at-read-tree-within = at-enum-told .before .before .before .before .before .before .before .before in
     let at-sheet-limits = at-read-tree-within .before .before .before .before in
-    let at-entry = at-sheet-limits .before .before .before .before .before .before .before .before .before .before .before in
+    let at-entry =
+    at-sheet-limits .before .before .before .before .before .before .before .before .before .before .before in
     let read = at-read-tree-within .read-tree-within in
-    let table = taken (at-limits (at-sheet-limits .sheet-limits .ensures) (read .ensures)) (at-entry .pre .parent) (at-entry .pre .rank) (at-entry .pre .work) (at-enum-told .enum-told .given .1) in
-    let steep = drawn-fresh table (at-layout .layout .ensures) (at-entry .pre .times) (at-entry .pre .steep-x) (at-entry .pre .steep-y) (read .kept .1 .1 .1 .1 .0 ∙ at-entry .pre .work) in
-    let balanced = drawn-fresh table (at-layout2 .layout2 .ensures) (at-layout .layout .kept .1 .1 .1 .0 ∙ at-entry .pre .times) (at-entry .pre .balanced-x) (at-entry .pre .balanced-y)
+    let table =
+    taken (at-limits (at-sheet-limits .sheet-limits .ensures) (read .ensures)) (at-entry .pre .parent)
+    (at-entry .pre .rank) (at-entry .pre .work) (at-enum-told .enum-told .given .1) in
+    let steep =
+    drawn-fresh table (at-layout .layout .ensures) (at-entry .pre .times) (at-entry .pre .steep-x)
+    (at-entry .pre .steep-y) (read .kept .1 .1 .1 .1 .0 ∙ at-entry .pre .work) in
+    let balanced =
+    drawn-fresh table (at-layout2 .layout2 .ensures) (at-layout .layout .kept .1 .1 .1 .0 ∙ at-entry .pre .times)
+    (at-entry .pre .balanced-x) (at-entry .pre .balanced-y)
     (at-layout .layout .kept .1 .1 .1 .1 .1 .1 .0 ∙ read .kept .1 .1 .1 .1 .0 ∙ at-entry .pre .work) in
     both-shown table steep balanced (at-put-sheet .put-sheet .ensures)
 

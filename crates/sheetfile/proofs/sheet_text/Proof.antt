@@ -1,5 +1,4 @@
 -- The lists are cut to the lots that the file can hold.
-use native.Mathlib.Omega.{arith}
 use Rattle.sheetfile.proofs.Cutting.{cut-whole, times-four, fitting}
 use borrow.Author.Needs.{needs}
 use Rattle.sheetfile.proofs.sheet_text.Statement.{statement}

@@ -2,7 +2,8 @@
 use Prim.Native.Nat.{_-_}
 use native.Mathlib.Omega.{arith}
 use lib.ListN.{length}
-use Rattle.table.proofs.FirstSlots.{Accumulating, accumulating-start, accumulating-in, accumulating-few, accumulating-step, accumulating-end}
+use Rattle.table.proofs.FirstSlots.{Accumulating, accumulating-start, accumulating-in, accumulating-few}
+use Rattle.table.proofs.FirstSlots.{accumulating-step, accumulating-end}
 use Rattle.table.proofs.accumulate.Statement.{statement}
 use Rattle.table.proofs.accumulate.Tie as tie
 

@@ -2,7 +2,8 @@
 use Prim.Native.Nat.{_-_}
 use native.Mathlib.Omega.{arith}
 use lib.ListN.{length}
-use Rattle.table.proofs.Seats.{Ranking, turn, seat-room, ranking-start, ranking-high, ranking-shared, ranking-step, ranking-end}
+use Rattle.table.proofs.Seats.{Ranking, turn, seat-room, ranking-start, ranking-high, ranking-shared}
+use Rattle.table.proofs.Seats.{ranking-step, ranking-end}
 use Rattle.table.proofs.bad_rank.Statement.{statement}
 use Rattle.table.proofs.bad_rank.Tie as tie
 

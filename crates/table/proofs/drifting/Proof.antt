@@ -2,7 +2,8 @@
 use Prim.Native.Nat.{_-_}
 use native.Mathlib.Omega.{arith}
 use lib.ListN.{length}
-use Rattle.table.proofs.Marks.{Drifting, drifting-start, drifting-found, drifting-reaches, drifting-step, drifting-end}
+use Rattle.table.proofs.Marks.{Drifting, drifting-start, drifting-found, drifting-reaches, drifting-step}
+use Rattle.table.proofs.Marks.{drifting-end}
 use Rattle.table.proofs.drifting.Statement.{statement}
 use Rattle.table.proofs.drifting.Tie as tie
 

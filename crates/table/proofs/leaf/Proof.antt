@@ -2,7 +2,8 @@
 use native.Mathlib.Omega.{arith}
 use mathlib.Core.Path.{refl}
 use Rattle.table.specs.Postorder.{size}
-use Rattle.table.proofs.Walks.{Descending, first-in, descending-slot, descending-inside, descending-step, descending-less, descending-end}
+use Rattle.table.proofs.Walks.{Descending, first-in, descending-slot, descending-inside, descending-step}
+use Rattle.table.proofs.Walks.{descending-less, descending-end}
 use Rattle.table.proofs.leaf.Statement.{statement}
 use Rattle.table.proofs.leaf.Tie as tie
 

@@ -1,7 +1,6 @@
 -- The last child is followed by the parent, any other by the first node of the next sibling's subtree.
 use native.Mathlib.Omega.{arith}
-use borrow.Author.Needs.{needs}
-use Rattle.table.proofs.Walks.{first-in, parent-inside, next-parent, next-slot, sibling-inside, next-leaf}
+use Rattle.table.proofs.Walks.{first-in, next-parent, next-slot, sibling-inside, next-leaf}
 use Rattle.table.proofs.next.Statement.{statement}
 use Rattle.table.proofs.next.Tie as tie
 

@@ -1,8 +1,9 @@
--- v's slot is below the first slot of the next node's children exactly when v's rank is below its parent's number of children.
+-- v's slot is below the first slot of the next node's children exactly when v's rank is below its parent's number of
+-- children.
 use borrow.Author.Needs.{needs}
 use native.Mathlib.Omega.{arith}
 use Rattle.laws.specs.Regions.{only-refl}
-use Rattle.table.proofs.Seats.{turn, parent-in, parent-room, seat-in, seat-room, seating-none, seating-few, seating-step}
+use Rattle.table.proofs.Seats.{turn, seat-room, seating-none, seating-few, seating-step}
 use Rattle.table.proofs.seat.Statement.{statement}
 use Rattle.table.proofs.seat.Tie as tie
 

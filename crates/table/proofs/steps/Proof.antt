@@ -2,7 +2,8 @@
 use Prim.Native.Nat.{_+_, _-_}
 use native.Mathlib.Omega.{arith}
 use lib.ListN.{length}
-use Rattle.table.proofs.Marks.{Stepping, stepping-start, stepping-in, stepping-found, stepping-step, stepping-end}
+use Rattle.table.proofs.Marks.{Stepping, stepping-start, stepping-in, stepping-found, stepping-step}
+use Rattle.table.proofs.Marks.{stepping-end}
 use Rattle.table.proofs.steps.Statement.{statement}
 use Rattle.table.proofs.steps.Tie as tie
 

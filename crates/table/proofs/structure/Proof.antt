@@ -1,9 +1,9 @@
 -- Each refusal is decided over all nodes before the next.
 use mathlib.Core.Path.{_∙_}
 use native.Mathlib.Omega.{arith}
-use borrow.Author.Needs.{needs}
 use Rattle.table.proofs.FirstSlots.{scratch-kept}
-use Rattle.table.proofs.Validation.{structured-5, scratch-of, started-kept, structured-6, structured-7, structured-all}
+use Rattle.table.proofs.Validation.{structured-5, scratch-of, started-kept, structured-6, structured-7}
+use Rattle.table.proofs.Validation.{structured-all}
 use Rattle.table.proofs.structure.Statement.{statement}
 use Rattle.table.proofs.structure.Tie as tie
 
@@ -66,7 +66,8 @@ bad-rank-requires c κs =
 cast-t17 : tie.Need-cast-t17
 cast-t17 c =
     let at-entry =
-    c .before .before .before .before .before .before .before .before .before .before .before .before .before .before .before .before in
+    c .before .before .before .before .before .before .before .before .before .before .before .before .before .before
+    .before .before in
     omega (arith, at-entry .pre .few)
 
 same-length : tie.Need-same-length
@@ -95,13 +96,15 @@ returns-2 c =
 add-clear : tie.Need-add-clear
 add-clear c =
     let at-entry =
-    c .before .before .before .before .before .before .before .before .before .before .before .before .before .before .before .before .before in
+    c .before .before .before .before .before .before .before .before .before .before .before .before .before .before
+    .before .before .before in
     omega (arith, at-entry .pre .few)
 
 mul-clear : tie.Need-mul-clear
 mul-clear c =
     let at-entry =
-    c .before .before .before .before .before .before .before .before .before .before .before .before .before .before .before .before .before in
+    c .before .before .before .before .before .before .before .before .before .before .before .before .before .before
+    .before .before .before in
     omega (arith, at-entry .pre .few)
 
 clear-requires : tie.Need-clear-requires
@@ -133,7 +136,8 @@ drifting-requires c κs =
 cast-t24 : tie.Need-cast-t24
 cast-t24 c =
     let at-entry =
-    c .before .before .before .before .before .before .before .before .before .before .before .before .before .before .before .before .before .before .before .before .before .before .before .before .before in
+    c .before .before .before .before .before .before .before .before .before .before .before .before .before .before
+    .before .before .before .before .before .before .before .before .before .before .before in
     omega (arith, at-entry .pre .few)
 
 same-length-2 : tie.Need-same-length-2

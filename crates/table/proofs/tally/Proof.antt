@@ -2,7 +2,8 @@
 use Prim.Native.Nat.{_-_}
 use native.Mathlib.Omega.{arith}
 use lib.ListN.{length}
-use Rattle.table.proofs.FirstSlots.{Tallying, tallying-start, tallying-in, tallying-few, tallying-step, tallying-end}
+use Rattle.table.proofs.FirstSlots.{Tallying, tallying-start, tallying-in, tallying-few, tallying-step}
+use Rattle.table.proofs.FirstSlots.{tallying-end}
 use Rattle.table.proofs.tally.Statement.{statement}
 use Rattle.table.proofs.tally.Tie as tie
 

@@ -3,7 +3,8 @@ use mathlib.Core.Path.{_∙_, sym}
 use native.Mathlib.Omega.{arith}
 use borrow.Author.Needs.{needs}
 use borrow.Author.Tests.{not-true, not-false}
-use Rattle.table.proofs.Validation.{validated-1, validated-2, validated-3-ranks, validated-3-others, validated-3-work, shape, validated-4, validated-all}
+use Rattle.table.proofs.Validation.{validated-1, validated-2, validated-3-ranks, validated-3-others}
+use Rattle.table.proofs.Validation.{validated-3-work, shape, validated-4, validated-all}
 use Rattle.table.proofs.validate.Statement.{statement}
 use Rattle.table.proofs.validate.Tie as tie
 

@@ -1,8 +1,8 @@
 -- v stands at its place of the order; its first number is its first child's, which is visited, or its own at a leaf.
-use mathlib.Core.Path.{_∙_, sym}
 use native.Mathlib.Omega.{arith}
 use borrow.Author.Needs.{needs}
-use Rattle.table.proofs.Walks.{first-in, visited-room, visited-order, noted-seated, leaf-first, visited-slot, visited-child, child-first, visited-step}
+use Rattle.table.proofs.Walks.{first-in, visited-room, visited-order, noted-seated, leaf-first, visited-slot}
+use Rattle.table.proofs.Walks.{visited-child, child-first, visited-step}
 use Rattle.table.proofs.visit.Statement.{statement}
 use Rattle.table.proofs.visit.Tie as tie
 

@@ -1,7 +1,8 @@
 -- The number without its last digits is written; the power d of ten says how many.
 use mathlib.Core.Path.{_∙_}
 use native.Mathlib.Omega.{arith}
-use Rattle.text.proofs.Spelling.{Spelling, first-digit, spelling-start, spelling-room, spelling-step, spelling-end}
+use Rattle.text.proofs.Spelling.{Spelling, first-digit, spelling-start, spelling-room, spelling-step}
+use Rattle.text.proofs.Spelling.{spelling-end}
 use Rattle.text.proofs.Spelling.{power-positive, power-before}
 use Rattle.text.proofs.put_decimal.Statement.{statement}
 use Rattle.text.proofs.put_decimal.Tie as tie
@@ -44,7 +45,14 @@ put-byte-requires-2 c κs =
     let at-unit = at-digit .before in
     let at-entry = at-unit .before .before in
     let first = first-digit (at-unit .unit .ensures) (at-digit .digit .ensures) (at-put-byte .put-byte .ensures) in
-    omega (arith, at-entry .pre, spelling-room (at-loop .loop .inv) (at-entry .pre .1) (at-loop-test .loop-test .taken) first, at-loop .loop .inv .text .long, first .long)
+    omega (
+      arith,
+      at-entry .pre,
+      spelling-room (at-loop .loop .inv) (at-entry .pre .1)
+          (at-loop-test .loop-test .taken) first,
+      at-loop .loop .inv .text .long,
+      first .long,
+    )
 
 loop-less : tie.Need-loop-less Inv-loop μ-loop
 loop-less c =
@@ -58,7 +66,8 @@ loop-again c =
     let at-loop-test = at-digit2 .before in
     let at-loop = at-loop-test .before in
     let at-entry = at-loop .before .before .before .before .before .before .before .before in
-    spelling-step (at-loop .loop .inv) (at-entry .pre .1) (at-loop-test .loop-test .taken) (at-digit2 .digit2 .ensures) (at-put-byte2 .put-byte2 .ensures)
+    spelling-step (at-loop .loop .inv) (at-entry .pre .1) (at-loop-test .loop-test .taken)
+    (at-digit2 .digit2 .ensures) (at-put-byte2 .put-byte2 .ensures)
 
 same-length : tie.Need-same-length Inv-loop μ-loop
 same-length c =
@@ -72,7 +81,8 @@ returns c =
     let at-put-byte = at-loop .before .before .before in
     let at-digit = at-put-byte .before .before in
     let at-unit = at-digit .before in
-    spelling-end (first-digit (at-unit .unit .ensures) (at-digit .digit .ensures) (at-put-byte .put-byte .ensures)) (at-loop .loop .inv) (omega (arith, c .loop-test .left))
+    spelling-end (first-digit (at-unit .unit .ensures) (at-digit .digit .ensures) (at-put-byte .put-byte .ensures))
+    (at-loop .loop .inv) (omega (arith, c .loop-test .left))
 
 pub put-decimal-spec : {M : Type 1} → statement M
 put-decimal-spec =

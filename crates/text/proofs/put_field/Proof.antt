@@ -14,7 +14,13 @@ put-byte-requires : tie.Need-put-byte-requires
 put-byte-requires c κs =
     let at-put-decimal = c .before .before .before in
     let at-entry = at-put-decimal .before .before .before in
-    omega (arith, at-entry .pre, at-put-decimal .put-decimal .ensures .ends, at-put-decimal .put-decimal .ensures .long, length-decimal (at-entry .args .n))
+    omega (
+      arith,
+      at-entry .pre,
+      at-put-decimal .put-decimal .ensures .ends,
+      at-put-decimal .put-decimal .ensures .long,
+      length-decimal (at-entry .args .n),
+    )
 
 same-length : tie.Need-same-length
 same-length c =

@@ -12,8 +12,16 @@ put-field-requires c κs = search needs
 put-field-requires-2 : tie.Need-put-field-requires-2
 put-field-requires-2 c κs =
     let at-put-field = c .before .before .before in
-    let at-entry = at-put-field .before .before .before in
-    (omega (arith, at-entry .pre, at-put-field .put-field .ensures .ends, at-put-field .put-field .ensures .long, length-field (at-entry .args .v) 32), at-entry .pre .2)
+    let at-entry = at-put-field .before .before .before in (
+      omega (
+        arith,
+        at-entry .pre,
+        at-put-field .put-field .ensures .ends,
+        at-put-field .put-field .ensures .long,
+        length-field (at-entry .args .v) 32,
+      ),
+      at-entry .pre .2,
+    )
 
 put-field-requires-3 : tie.Need-put-field-requires-3
 put-field-requires-3 c κs =
@@ -91,7 +99,8 @@ returns c =
     let at-put-field3 = at-put-field4 .before .before .before .before in
     let at-put-field2 = at-put-field3 .before .before .before .before in
     let at-put-field = at-put-field2 .before .before .before .before in
-    line-written _ _ _ _ _ (at-put-field .put-field .ensures) (at-put-field2 .put-field2 .ensures) (at-put-field3 .put-field3 .ensures) (at-put-field4 .put-field4 .ensures)
+    line-written _ _ _ _ _ (at-put-field .put-field .ensures) (at-put-field2 .put-field2 .ensures)
+    (at-put-field3 .put-field3 .ensures) (at-put-field4 .put-field4 .ensures)
     (at-put-field5 .put-field5 .ensures)
 
 pub put-line-spec : {M : Type 1} → statement M

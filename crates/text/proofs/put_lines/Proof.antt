@@ -70,7 +70,8 @@ loop-again c =
     let at-get = at-get2 .before in
     let at-loop-test = at-get .before .before in
     let at-loop = at-loop-test .before in
-    listing-step _ _ (at-loop .loop .inv) (at-loop-test .loop-test .taken) (at-get .get .ensures .0) (at-get2 .get2 .ensures .0) (at-get3 .get3 .ensures .0)
+    listing-step _ _ (at-loop .loop .inv) (at-loop-test .loop-test .taken) (at-get .get .ensures .0)
+    (at-get2 .get2 .ensures .0) (at-get3 .get3 .ensures .0)
     (at-get4 .get4 .ensures .0) (at-put-line .put-line .ensures)
 
 same-length : tie.Need-same-length Inv-loop μ-loop

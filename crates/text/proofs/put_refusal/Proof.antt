@@ -41,7 +41,8 @@ returns c =
     let at-put-field2 = c .before .before in
     let at-put-field = at-put-field2 .before .before .before .before in
     let at-put-word = at-put-field .before .before .before .before in
-    appended-on (at-put-word .put-word .ensures) (appended-on (at-put-field .put-field .ensures) (at-put-field2 .put-field2 .ensures))
+    appended-on (at-put-word .put-word .ensures)
+    (appended-on (at-put-field .put-field .ensures) (at-put-field2 .put-field2 .ensures))
 
 pub put-refusal-spec : {M : Type 1} → statement M
 put-refusal-spec =

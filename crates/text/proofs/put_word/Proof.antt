@@ -24,7 +24,13 @@ put-byte-requires c κs =
     let at-loop-test = c .before .before in
     let at-loop = at-loop-test .before in
     let at-entry = at-loop .before .before .before in
-    omega (arith, at-entry .pre, at-loop .loop .inv .ends, at-loop .loop .inv .text .long, at-loop-test .loop-test .taken)
+    omega (
+      arith,
+      at-entry .pre,
+      at-loop .loop .inv .ends,
+      at-loop .loop .inv .text .long,
+      at-loop-test .loop-test .taken,
+    )
 
 add-i : tie.Need-add-i Inv-loop μ-loop
 add-i c = omega arith

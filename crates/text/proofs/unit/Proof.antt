@@ -1,7 +1,8 @@
 -- The powers of ten are taken one after the other, up to n.
 use Prim.Native.Nat.{_-_}
 use native.Mathlib.Omega.{arith}
-use Rattle.text.proofs.Spelling.{Climbing, climbing-start, climbing-step, climbing-end, climbing-low, power-positive}
+use Rattle.text.proofs.Spelling.{Climbing, climbing-start, climbing-step, climbing-end, climbing-low}
+use Rattle.text.proofs.Spelling.{power-positive}
 use Rattle.text.proofs.unit.Statement.{statement}
 use Rattle.text.proofs.unit.Tie as tie
 

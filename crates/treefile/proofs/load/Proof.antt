@@ -1,9 +1,7 @@
 -- The old contents are kept in the half of the work list that `validate` leaves alone.
-use mathlib.Core.Path.{_∙_, ap}
 use native.Mathlib.Omega.{arith}
-use lib.ListN.{length}
 use borrow.Author.Needs.{needs}
-use Rattle.treefile.proofs.Loading.{first-room, second-room, parents-room, ranks-room, loaded-accepted, loaded-refused, parents-back, ranks-back}
+use Rattle.treefile.proofs.Loading.{parents-room, ranks-room, loaded-accepted, loaded-refused}
 use Rattle.treefile.proofs.load.Statement.{statement}
 use Rattle.treefile.proofs.load.Tie as tie
 
@@ -40,7 +38,9 @@ enum-told c = search needs
 cast-t32 : tie.Need-cast-t32
 cast-t32 c =
     let at-entry =
-    c .before .before .before .before .before .before .before .before .before .before .before .before .before .before .before .before .before .before .before .before .before .before .before .before .before .before .before .before .before .before in
+    c .before .before .before .before .before .before .before .before .before .before .before .before .before .before
+    .before .before .before .before .before .before .before .before .before .before .before .before .before
+    .before .before .before in
     omega (arith, at-entry .pre .small)
 
 enum-known-k : tie.Need-enum-known-k
@@ -49,7 +49,9 @@ enum-known-k c = search needs
 mul-restore : tie.Need-mul-restore
 mul-restore c =
     let at-entry =
-    c .before .before .before .before .before .before .before .before .before .before .before .before .before .before .before .before .before .before .before .before .before .before .before .before .before .before .before .before .before .before .before .before in
+    c .before .before .before .before .before .before .before .before .before .before .before .before .before .before
+    .before .before .before .before .before .before .before .before .before .before .before .before .before
+    .before .before .before .before .before in
     omega (arith, at-entry .pre .small)
 
 restore-requires : tie.Need-restore-requires
@@ -66,7 +68,9 @@ restore-requires c κs =
 mul-restore-2 : tie.Need-mul-restore-2
 mul-restore-2 c =
     let at-entry =
-    c .before .before .before .before .before .before .before .before .before .before .before .before .before .before .before .before .before .before .before .before .before .before .before .before .before .before .before .before .before .before .before .before .before .before .before .before .before in
+    c .before .before .before .before .before .before .before .before .before .before .before .before .before .before
+    .before .before .before .before .before .before .before .before .before .before .before .before .before
+    .before .before .before .before .before .before .before .before .before .before in
     omega (arith, at-entry .pre .small)
 
 restore-requires-2 : tie.Need-restore-requires-2
@@ -111,9 +115,11 @@ same-length-5 c = search needs
 same-length-6 : tie.Need-same-length-6
 same-length-6 c =
     let at-validate =
-    c .before .before .before .before .before .before .before .before .before .before .before .before .before .before .before in
+    c .before .before .before .before .before .before .before .before .before .before .before .before .before .before
+    .before in
     let at-save2 =
-    at-validate .before .before .before .before .before .before .before .before .before .before .before .before .before .before in
+    at-validate .before .before .before .before .before .before .before .before .before .before .before .before
+    .before .before in
     let at-save = at-save2 .before .before .before .before .before in
     omega (
       arith,

@@ -1,7 +1,7 @@
 -- The tests in document 01's order, then the table by `load`.
-use native.Mathlib.Omega.{arith}
 use borrow.Author.Needs.{needs}
-use Rattle.treefile.proofs.Opening.{refused-16, refused-1, refused-2, refused-17, refused-3-parents, refused-3-ranks, refused-3-work, opened, read}
+use Rattle.treefile.proofs.Opening.{refused-16, refused-1, refused-2, refused-17, refused-3-parents}
+use Rattle.treefile.proofs.Opening.{refused-3-ranks, refused-3-work, opened, read}
 use Rattle.treefile.proofs.read_tree_within.Statement.{statement}
 use Rattle.treefile.proofs.read_tree_within.Tie as tie
 

@@ -1,4 +1,4 @@
--- Four bytes make at most 2 .before .before .before .before .before .before .before .before .before .before .before .before .before .before .before .before .before .before .before .before .before .before .before .before .before .before .before .before .before .before .before .before - 1.
+-- Four bytes make at most 2^32 - 1.
 use borrow.Author.Needs.{needs}
 use native.Mathlib.Omega.{arith}
 use Rattle.treefile.specs.TreeFile.{wordAt}

@@ -1,0 +1,154 @@
+-- Document 01's cases that are marked [proved]: one table, and one theorem about the definitions.
+--
+--   Case          == a case, with what document 01 says of it
+--   Holds c       == the definitions say so
+--   cases         == the table, in document 01's order
+--   cases-hold    == every case of it holds
+use mathlib.Core.Bool.{true}
+use mathlib.Core.List.{List, [], _∷_}
+use mathlib.Core.Path.{_≡_, refl}
+use Prim.Native.Nat.{ℕ, _*_}
+use lib.IntN.{ℤ, pos, negℤ}
+use lib.ListN.{length}
+use Rattle.laws.specs.Refusals.{refusal}
+use Rattle.laws.specs.Search.{count, least, tabulate}
+use Rattle.table.specs.Table.{climb, leads, isChild, children, isChildAt, childAt, under, rise, forest, postorder}
+use Rattle.table.specs.Table.{place, order, postNumber, large, checked, strayParent, badRank, adrift, allLong}
+use Rattle.table.specs.Table.{shapeFault, treeFault, tableFault}
+use Rattle.slopes.specs.declared.Rule.the-variants.{Steep, Balanced}
+use Rattle.slopes.specs.declared.Slope.{Slope}
+use Rattle.slopes.specs.Examples.{_over_}
+use Rattle.slopes.specs.Slopes.{levels, flat, upright, levelsFor, slopeAt, edge}
+use Rattle.drawing.specs.declared.Framed.{Framed}
+use Rattle.drawing.specs.declared.Framed.the-variants.{Frame, Refused}
+use Rattle.drawing.specs.Drawing.{Drawing, Outcome, sumUp, pathSum, freshPlaces, fresh, largest, frame, placed}
+use Rattle.drawing.specs.Drawing.{nodeFits}
+use Rattle.drawing.specs.Drawing.{moved, stretched, beyond, settle, drawingFault, layout, lengthen, shorten, lent}
+use Rattle.direction.specs.declared.Heading.the-variants.{Along}
+use Rattle.direction.specs.Direction.{sideways, heading, pairFault, reply, direction}
+use Rattle.monotone.specs.declared.Verdict.{Verdict}
+use Rattle.monotone.specs.declared.Verdict.the-variants.{Monotone, Turns}
+use Rattle.monotone.specs.Decision.{widen, span, upward, downward, pathVectors, turnsAt, secondNode, firstNode, decide}
+use Rattle.monotone.specs.Decision.{decide-says}
+use Rattle.monotone.specs.Monotone.{checkFault, Says}
+use Rattle.monotone.specs.Monotone as monotone
+
+------------------------------------------------------------------------
+-- Cases
+
+abbrev fiveParents : List ℕ
+fiveParents = 0 ∷ 0 ∷ 0 ∷ 1 ∷ 1 ∷ []
+
+abbrev fiveRanks : List ℕ
+fiveRanks = 0 ∷ 0 ∷ 1 ∷ 0 ∷ 1 ∷ []
+
+pub data Case : Type 0 where
+  -- the post numbers of a table's nodes
+  Numbers : List ℕ → List ℕ → List ℕ → Case
+  -- an outcome of layout, lengthen or shorten: the answer and the drawing
+  Calls : Outcome → Framed → Drawing → Case
+  -- the steep direction of the five-lot table from u to v
+  Goes : ℕ → ℕ → ℤ → ℤ → Case
+  -- the fractions of levels 1 to k
+  Levels : ℕ → List Slope → Case
+  -- the check's answer for a table with its places
+  Checks : List ℕ → List ℕ → List ℕ → List ℕ → Verdict → Case
+  -- a table's refusal
+  Refuses : List ℕ → List ℕ → ℕ → ℕ → Case
+
+unfoldable pub Holds : Case → Type 0
+Holds (Numbers P R l) = tabulate (length P) (postNumber P R) ≡ l
+Holds (Calls o a s) = o ≡ record { answer = a; drawing = s }
+Holds (Goes u v d e) = direction large fiveParents fiveRanks Steep 20 u v ≡ Along d e
+Holds (Levels k l) = levels k flat upright ≡ l
+Holds (Checks P R x y r) = Says checked P R x y (4 * length P) r
+Holds (Refuses P R k v) = tableFault large P R true (4 * length P) ≡ refusal k v
+
+unfoldable pub AllHold : List Case → Type 0
+AllHold [] = Unit {0}
+AllHold (c ∷ cs) = Holds c × AllHold cs
+
+------------------------------------------------------------------------
+-- Drawings
+
+-- whatever the lists hold before
+abbrev anyFive : Drawing
+anyFive = lent (7 ∷ 7 ∷ 7 ∷ 7 ∷ 7 ∷ []) (7 ∷ 7 ∷ 7 ∷ 7 ∷ 7 ∷ []) (7 ∷ 7 ∷ 7 ∷ 7 ∷ 7 ∷ [])
+
+abbrev steep : Drawing
+steep = lent (1 ∷ 1 ∷ 1 ∷ 1 ∷ 1 ∷ []) (0 ∷ 1 ∷ 1 ∷ 2 ∷ 2 ∷ []) (0 ∷ 3 ∷ 4 ∷ 4 ∷ 5 ∷ [])
+
+abbrev balanced : Drawing
+balanced = lent (1 ∷ 1 ∷ 1 ∷ 1 ∷ 1 ∷ []) (0 ∷ 3 ∷ 1 ∷ 6 ∷ 5 ∷ []) (0 ∷ 2 ∷ 1 ∷ 3 ∷ 3 ∷ [])
+
+abbrev stretchedOne : Drawing
+stretchedOne = lent (1 ∷ 3 ∷ 1 ∷ 1 ∷ 1 ∷ []) (0 ∷ 3 ∷ 1 ∷ 4 ∷ 4 ∷ []) (0 ∷ 9 ∷ 4 ∷ 10 ∷ 11 ∷ [])
+
+abbrev one : List ℕ
+one = 0 ∷ []
+
+abbrev two : List ℕ
+two = 0 ∷ 0 ∷ []
+
+abbrev freshTwo : Drawing
+freshTwo = lent (1 ∷ 1 ∷ []) (0 ∷ 1 ∷ []) (0 ∷ 1 ∷ [])
+
+abbrev farTwo : Drawing
+farTwo = lent (1 ∷ 2147483647 ∷ []) (0 ∷ 2147483647 ∷ []) (0 ∷ 2147483647 ∷ [])
+
+------------------------------------------------------------------------
+-- The table
+
+unfoldable pub cases : List Case
+cases =
+    -- the five lots
+    Numbers fiveParents fiveRanks (5 ∷ 3 ∷ 4 ∷ 1 ∷ 2 ∷ [])
+    ∷ Calls (layout large fiveParents fiveRanks Steep anyFive 20) (Frame 2 5) steep
+    ∷ Calls (layout large fiveParents fiveRanks Balanced anyFive 20) (Frame 6 3) balanced
+    -- steep directions
+    ∷ Goes 3 2 (negℤ (pos 7)) (pos 2)
+    ∷ Goes 2 3 (pos 7) (negℤ (pos 2))
+    ∷ Goes 4 3 (pos 3) (negℤ (pos 2))
+    ∷ Goes 0 4 (pos 1) (pos 1)
+    -- lot 1 longer by 2, then shorter by 3 and by 2
+    ∷ Calls (lengthen large fiveParents fiveRanks Steep steep 20 1 2) (Frame 4 11) stretchedOne
+    ∷ Calls (shorten large fiveParents fiveRanks Steep stretchedOne 20 1 3) (Refused 12 1) stretchedOne
+    ∷ Calls (shorten large fiveParents fiveRanks Steep stretchedOne 20 1 2) (Frame 2 5) steep
+    -- three balanced levels
+    ∷ Levels 3 (1 over 3 ∷ 1 over 2 ∷ 2 over 3 ∷ 1 over 1 ∷ 3 over 2 ∷ 2 over 1 ∷ 3 over 1 ∷ [])
+    -- one lot
+    ∷ Calls (layout large one one Balanced (lent (9 ∷ []) (9 ∷ []) (9 ∷ [])) 4) (Frame 0 0) (lent (1 ∷ []) one one)
+    -- two lots, up to the largest place and one beyond it
+    ∷ Calls (lengthen large two two Steep freshTwo 8 1 2147483646) (Frame 2147483647 2147483647) farTwo
+    ∷ Calls (lengthen large two two Steep freshTwo 8 1 2147483647) (Refused 11 1) freshTwo
+    -- chains, and two lots at one place
+    ∷ Checks (0 ∷ 0 ∷ 1 ∷ 2 ∷ []) (0 ∷ 0 ∷ 0 ∷ 0 ∷ []) (0 ∷ 1 ∷ 1 ∷ 0 ∷ []) (0 ∷ 0 ∷ 1 ∷ 1 ∷ []) (Turns 0 3)
+    ∷ Checks (0 ∷ 0 ∷ 1 ∷ []) (0 ∷ 0 ∷ 0 ∷ []) (0 ∷ 1 ∷ 2 ∷ []) (0 ∷ 0 ∷ 0 ∷ []) Monotone
+    ∷ Checks two two two two (Turns 0 1)
+    -- a loop
+    ∷ Refuses (0 ∷ 2 ∷ 1 ∷ []) (0 ∷ 0 ∷ 0 ∷ []) 7 1
+    ∷ []
+
+------------------------------------------------------------------------
+-- The theorem
+
+says : (P R x y : List ℕ) → Says checked P R x y (4 * length P) (decide checked P R x y (4 * length P))
+says P R x y = decide-says checked P R x y (4 * length P)
+
+infixr 20 _and_
+abbrev _and_ : {A B : Type 0} → A → B → A × B
+a and b = (a, b)
+
+pub cases-hold : AllHold cases
+unfolding AllHold Holds cases count least tabulate climb leads isChild children isChildAt childAt under rise forest
+    postorder place order postNumber strayParent badRank adrift allLong shapeFault treeFault tableFault
+    levels levelsFor slopeAt edge sumUp pathSum freshPlaces fresh largest frame placed nodeFits moved stretched beyond
+    settle drawingFault layout lengthen shorten sideways heading pairFault reply direction
+    monotone.beyond checkFault widen span upward downward pathVectors turnsAt secondNode firstNode decide
+cases-hold =
+    refl and refl and refl and refl and refl and refl and refl
+    and refl and refl and refl and refl and refl and refl and refl
+    and says (0 ∷ 0 ∷ 1 ∷ 2 ∷ []) (0 ∷ 0 ∷ 0 ∷ 0 ∷ []) (0 ∷ 1 ∷ 1 ∷ 0 ∷ []) (0 ∷ 0 ∷ 1 ∷ 1 ∷ [])
+    and says (0 ∷ 0 ∷ 1 ∷ []) (0 ∷ 0 ∷ 0 ∷ []) (0 ∷ 1 ∷ 2 ∷ []) (0 ∷ 0 ∷ 0 ∷ [])
+    and says two two two two
+    and refl and tt
