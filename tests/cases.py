@@ -1,10 +1,13 @@
 #!/usr/bin/env python3
 """Prints what the program `cases` must print: document 01's calls on large trees, in plain Python.
 
-Written from document 01 (tree table, traversal, slopes, layout, lengthen, shorten, refusals), not from the Rattle code.
+Written from document 01 (tree table, traversal, slopes, layout, lengthen, shorten, check, refusals), not from the
+Rattle code. It takes a minute or two.
     python3 tests/cases.py > crates/cases/stdout
 """
 LIMIT = 2147483647
+LOTS = 65536
+CHECKED = 4096
 
 
 def slopes(rule, n):
@@ -52,18 +55,23 @@ class Tree:
 class Sheet:
     def __init__(self, tree, rule):
         self.tree, n = tree, tree.n
+        self.times, self.x, self.y = [0] * n, [0] * n, [0] * n
+        if n > LOTS:
+            return
         order = slopes(rule, n)
         self.slope = [order[j - 1] if j < n else (0, 0) for j in tree.post]
-        self.times, self.x, self.y = [1] * n, [0] * n, [0] * n
+        self.times = [1] * n
         for v in tree.down(0)[1:]:
             p = tree.parent[v]
             self.x[v] = self.x[p] + self.slope[v][0]
             self.y[v] = self.y[p] + self.slope[v][1]
 
     def frame(self):
-        return (1, max(self.x), max(self.y))
+        return (1, max(self.x), max(self.y)) if self.tree.n <= LOTS else (0, 2, 0)
 
-    def move(self, v, c, longer):
+    def move(self, longer, v, c):
+        if self.tree.n > LOTS:
+            return (0, 2, 0)
         if v >= self.tree.n:
             return (0, 9, 0)
         if v == 0:
@@ -80,6 +88,49 @@ class Sheet:
             self.x[z] += across
             self.y[z] += up
         return self.frame()
+
+
+def wider(cone, e, f):
+    """The cone that holds the vector (e, f) too: its two outermost vectors, clockwise first; () without any, None where
+    no open half plane holds them all."""
+    if not cone:
+        return (e, f, e, f) if cone == () and (e or f) else None
+    a, b, c, d = cone
+    left, right = a * f - b * e, e * d - f * c
+    if left >= 0 and right >= 0:
+        return cone if left or right or a * e + b * f > 0 else None
+    if left > 0:
+        return a, b, e, f
+    return (e, f, c, d) if right > 0 else None
+
+
+def check(tree, x, y):
+    """The check's answer: from each lot u in turn, a walk over the tree that carries the cone of the path from u."""
+    if tree.n > CHECKED:
+        return (0, 14, 0)
+    near = [{} for _ in range(tree.n)]  # the lots that a lot is joined with, and the vectors to them
+    for v in range(1, tree.n):
+        p = tree.parent[v]
+        across, up = x[v] - x[p], y[v] - y[p]
+        near[p][v], near[v][p] = (across, up), (-across, -up)
+    for u in range(tree.n):
+        turning, walk = tree.n, [(u, u, ())]
+        while walk:
+            v, source, cone = walk.pop()
+            for z, (e, f) in near[v].items():
+                if z != source:
+                    more = wider(cone, e, f)
+                    if more is None and u < z < turning:
+                        turning = z
+                    if len(near[z]) > 1:
+                        walk.append((z, v, more))
+        if turning < tree.n:
+            return (1, u, turning)
+        while u >= 0 and len(near[u]) == 1:  # a leaf that was walked from is on no later path
+            (p,) = near[u]
+            del near[p][u]
+            u = p if p < u else -1
+    return (2, 0, 0)
 
 
 def mixed(numbers):
@@ -125,22 +176,30 @@ def whole(sheet):
 
 
 def case(shape, relabelled, rule, n):
-    sheet = Sheet(Tree(*grown(shape, n, relabelled)), rule)
-    show(shape, relabelled, rule, n, *sheet.frame(), *whole(sheet))
+    tree = Tree(*grown(shape, n, relabelled))
+    sheet = Sheet(tree, rule)
+    show(n, shape, relabelled, rule, *sheet.frame(), *whole(sheet))
+    half, last = n // 2, n - 1
     for longer, v, c in [
-        (1, n // 2, 1), (1, n - 1, 1000), (1, 1, 0), (1, 0, 1), (1, n, 1), (1, n // 2, 4294967295), (0, n // 2, 2),
-        (0, n // 2, 1), (0, n - 1, 1001), (0, n - 1, 999), (1, n // 3 + 1, 70000),
+        (1, half, 1), (1, last, 1000), (1, 1, 0), (1, 0, 1), (1, n, 1), (1, half, 4294967295), (0, half, 2),
+        (0, half, 1), (0, last, 1001), (0, last, 999), (1, n // 3, 70000),
     ]:
-        show(longer, v, c, *sheet.move(v, c, longer == 1), *whole(sheet))
+        show(longer, v, c, *sheet.move(longer, v, c), *whole(sheet))
+    for k in reversed(range(32)):  # the middle lot as far as it goes
+        sheet.move(1, half, 2**k)
+    show(1, half, 1, *sheet.move(1, half, 1), *whole(sheet))
+    drawing = tree.parent, sheet.x, sheet.y
+    show(*check(tree, sheet.x, sheet.y), *map(mixed, drawing))
+    for c in (sheet.x, sheet.y):  # the middle lot is put where the lot before it is
+        c[half] = c[half - 1]
+    show(*check(tree, sheet.x, sheet.y), *map(mixed, drawing))
 
 
 def main():
-    for shape, n in [(0, 1000), (1, 1000), (2, 1000), (3, 1000), (4, 1000), (4, 65536)]:
+    for kind, n in enumerate([4096] * 5 + [65536, 4097, 65536, 65537, 65536]):
         for relabelled in (0, 1):
             for rule in (0, 1):
-                case(shape, relabelled, rule, n)
-    for rule in (0, 1):
-        show(65537, 0, 2, "")  # one lot too many: refusal 2
+                case(kind % 5, relabelled, rule, n)
 
 
 if __name__ == "__main__":

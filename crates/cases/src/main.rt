@@ -1,0 +1,449 @@
+// Large trees of several shapes under both rules: layout, a list of calls and the check, with a line for each answer.
+//
+// Each line ends with three lists, each mixed into one number. What is printed is compared with the output of
+// tests/cases.py, which makes the same calls in plain Python.
+use drawing::Framed;
+use monotone::Verdict;
+use slopes::Rule;
+use std::num::wrapping_add_u32;
+use std::num::wrapping_sub_usize;
+
+// A tree and a rule: the shape, whether nodes are relabelled, whether the rule is balanced, and how many nodes.
+struct Case {
+    shape: u32,
+    relabelled: bool,
+    balanced: bool,
+    size: usize,
+}
+
+// A call of the list: whether it lengthens or shortens, whose edge, and by how much.
+struct Call {
+    longer: bool,
+    node: u32,
+    count: u32,
+}
+
+// The number at an index, 0 where there is none.
+fn look(list: &[u32], i: usize) -> u32 {
+    if i < list.len() { list[i] } else { 0 }
+}
+
+// Stores a number at an index, where there is one.
+fn store(list: &mut [u32], i: usize, a: u32) {
+    if i < list.len() {
+        list[i] = a;
+    }
+}
+
+// Zeroes a list.
+fn clear(list: &mut [u32]) {
+    let n = list.len();
+    let mut i = 0;
+    while i < n {
+        store(list, i, 0);
+        i += 1;
+    }
+}
+
+// One more number mixed in.
+fn mix(h: u64, a: u32) -> u64 {
+    (h % 4294967296 * 31 + a as u64) % 4294967296
+}
+
+// The numbers of a list, in their order, as one number below 2^32.
+fn mixed(list: &[u32]) -> u64 {
+    let n = list.len();
+    let mut h = 0;
+    let mut i = 0;
+    while i < n {
+        h = mix(h, look(list, i));
+        i += 1;
+    }
+    h
+}
+
+// A number and a space.
+fn show(a: u32) {
+    io::print_decimal(1, a as u64);
+    io::write_all(1, b" ");
+}
+
+fn show_three(a: u32, b: u32, c: u32) {
+    show(a);
+    show(b);
+    show(c);
+}
+
+// Three lists, and the line's end.
+fn show_lists(a: &[u32], x: &[u32], y: &[u32]) {
+    io::print_decimal(1, mixed(a));
+    io::write_all(1, b" ");
+    io::print_decimal(1, mixed(x));
+    io::write_all(1, b" ");
+    io::print_decimal(1, mixed(y));
+    io::write_all(1, b"\n");
+}
+
+// The next number of a small linear congruential generator.
+fn next(seed: u64) -> u64 {
+    (seed % 2147483648 * 1103515245 + 12345) % 2147483648
+}
+
+// The node before v, 0 where there is none.
+fn before(v: usize) -> usize {
+    if v == 0 { 0 } else { v - 1 }
+}
+
+// A random node before v, or 0.
+fn random(seed: u64, v: usize) -> usize {
+    if v == 0 { 0 } else { (seed / 256) as usize % v }
+}
+
+// The parent of v, from 1 up, among n nodes: a chain, a star, a broom, a caterpillar or a random tree.
+fn pick(shape: u32, n: usize, v: usize, seed: u64) -> usize {
+    match shape {
+        0 => before(v),
+        1 => 0,
+        2 => if v < n / 2 { before(v) } else { before(n / 2) },
+        3 => before(v) / 2 * 2,
+        _ => random(seed, v),
+    }
+}
+
+// The number of v: v itself, or n - v where nodes are relabelled, so that parents come after their children.
+fn name(relabelled: bool, n: usize, v: usize) -> usize {
+    if relabelled && 0 < v {
+        wrapping_sub_usize(n, v)
+    } else {
+        v
+    }
+}
+
+// Hangs v below p, after the children that p has.
+fn hang(parent: &mut [u32], rank: &mut [u32], used: &mut [u32], v: usize, p: usize) {
+    store(parent, v, (p % 4294967296) as u32);
+    let k = look(used, p);
+    store(rank, v, k);
+    store(used, p, wrapping_add_u32(k, 1));
+}
+
+// A tree of the shape. The lists are zeroed; `used` counts the children of each node.
+fn grow(shape: u32, relabelled: bool, parent: &mut [u32], rank: &mut [u32], used: &mut [u32]) {
+    let n = parent.len();
+    let mut seed = 1;
+    let mut v = 1;
+    while v < n {
+        seed = next(seed);
+        let p = pick(shape, n, v, seed);
+        let child = name(relabelled, n, v);
+        let above = name(relabelled, n, p);
+        hang(parent, rank, used, child, above);
+        v += 1;
+    }
+}
+
+// 1 and the frame, or 0 and the refusal.
+fn show_framed(answer: Framed) {
+    match answer {
+        Framed::Frame(width, height) => show_three(1, width, height),
+        Framed::Refused(number, node) => show_three(0, number, node),
+    }
+}
+
+// 2 for Monotone, 1 and the pair that turns, or 0 and the refusal.
+fn show_verdict(answer: Verdict) {
+    match answer {
+        Verdict::Monotone => show_three(2, 0, 0),
+        Verdict::Turns(u, v) => show_three(1, u, v),
+        Verdict::Refused(number, node) => show_three(0, number, node),
+    }
+}
+
+fn rule_of(balanced: bool) -> Rule {
+    if balanced {
+        Rule::Balanced
+    } else {
+        Rule::Steep
+    }
+}
+
+// The fresh drawing.
+fn show_layout(
+    rule: Rule,
+    parent: &[u32],
+    rank: &[u32],
+    times: &mut [u32],
+    x: &mut [u32],
+    y: &mut [u32],
+    work: &mut [u32],
+) {
+    let answer = drawing::layout(rule, parent, rank, times, x, y, work);
+    show_framed(answer);
+    show_lists(times, x, y);
+}
+
+// Lengthens or shortens.
+fn stretch(
+    call: Call,
+    rule: Rule,
+    parent: &[u32],
+    rank: &[u32],
+    times: &mut [u32],
+    x: &mut [u32],
+    y: &mut [u32],
+    work: &mut [u32],
+) -> Framed {
+    let node = call.node;
+    let count = call.count;
+    if call.longer {
+        return drawing::lengthen(rule, parent, rank, times, x, y, work, node, count);
+    }
+    drawing::shorten(rule, parent, rank, times, x, y, work, node, count)
+}
+
+// One call, its answer and what it leaves.
+fn show_call(
+    call: Call,
+    rule: Rule,
+    parent: &[u32],
+    rank: &[u32],
+    times: &mut [u32],
+    x: &mut [u32],
+    y: &mut [u32],
+    work: &mut [u32],
+) {
+    show_three(call.longer as u32, call.node, call.count);
+    let answer = stretch(call, rule, parent, rank, times, x, y, work);
+    show_framed(answer);
+    show_lists(times, x, y);
+}
+
+fn longer(node: u32, count: u32) -> Call {
+    Call {
+        longer: true,
+        node: node,
+        count: count,
+    }
+}
+
+fn shorter(node: u32, count: u32) -> Call {
+    Call {
+        longer: false,
+        node: node,
+        count: count,
+    }
+}
+
+// The i-th call on a drawing of n nodes, of which `last` is the last: accepted counts, and refused ones beside them.
+fn call_at(i: usize, n: u32, last: u32) -> Call {
+    match i {
+        0 => longer(n / 2, 1),
+        1 => longer(last, 1000),
+        2 => longer(1, 0),
+        3 => longer(0, 1),
+        4 => longer(n, 1),
+        5 => longer(n / 2, 4294967295),
+        6 => shorter(n / 2, 2),
+        7 => shorter(n / 2, 1),
+        8 => shorter(last, 1001),
+        9 => shorter(last, 999),
+        _ => longer(n / 3, 70000),
+    }
+}
+
+// The list of calls, refused ones among them.
+fn calls(
+    rule: Rule,
+    parent: &[u32],
+    rank: &[u32],
+    times: &mut [u32],
+    x: &mut [u32],
+    y: &mut [u32],
+    work: &mut [u32],
+) {
+    let n = (parent.len() % 4294967296) as u32;
+    let last = (before(parent.len()) % 4294967296) as u32;
+    let mut i = 0;
+    while i < 11 {
+        let call = call_at(i, n, last);
+        show_call(call, rule, parent, rank, times, x, y, work);
+        i += 1;
+    }
+}
+
+// Lengthens an edge by 2^31, 2^30, .., 1, each where it fits: afterwards not even 1 does.
+fn reach(
+    node: u32,
+    rule: Rule,
+    parent: &[u32],
+    rank: &[u32],
+    times: &mut [u32],
+    x: &mut [u32],
+    y: &mut [u32],
+    work: &mut [u32],
+) {
+    let mut count = 2147483648;
+    while 0 < count {
+        drawing::lengthen(rule, parent, rank, times, x, y, work, node, count);
+        count /= 2;
+    }
+    let call = longer(node, 1);
+    show_call(call, rule, parent, rank, times, x, y, work);
+}
+
+// The fresh drawing, the list of calls on it, and the edge of its middle node lengthened as far as it goes.
+fn draw(
+    rule: Rule,
+    parent: &[u32],
+    rank: &[u32],
+    times: &mut [u32],
+    x: &mut [u32],
+    y: &mut [u32],
+    work: &mut [u32],
+) {
+    show_layout(rule, parent, rank, times, x, y, work);
+    calls(rule, parent, rank, times, x, y, work);
+    let middle = (parent.len() / 2 % 4294967296) as u32;
+    reach(middle, rule, parent, rank, times, x, y, work);
+}
+
+// The check's answer.
+fn judge(parent: &[u32], rank: &[u32], x: &[u32], y: &[u32], work: &mut [u32]) {
+    let answer = monotone::check(parent, rank, x, y, work);
+    show_verdict(answer);
+    show_lists(parent, x, y);
+}
+
+// A coordinate of v becomes that of the node before.
+fn displace(c: &mut [u32], v: usize) {
+    let a = look(c, before(v));
+    store(c, v, a);
+}
+
+// The check of the drawing, and of the one whose middle node stands where the node before it does.
+fn judge_twice(parent: &[u32], rank: &[u32], x: &mut [u32], y: &mut [u32], work: &mut [u32]) {
+    judge(parent, rank, x, y, work);
+    displace(x, parent.len() / 2);
+    displace(y, parent.len() / 2);
+    judge(parent, rank, x, y, work);
+}
+
+// The tree of the case, on lists that are zeroed first.
+fn plant(
+    case: Case,
+    parent: &mut [u32],
+    rank: &mut [u32],
+    times: &mut [u32],
+    x: &mut [u32],
+    y: &mut [u32],
+    work: &mut [u32],
+) {
+    clear(parent);
+    clear(rank);
+    clear(times);
+    clear(x);
+    clear(y);
+    clear(work);
+    grow(case.shape, case.relabelled, parent, rank, work);
+}
+
+// The tree of the case is drawn and checked.
+fn whole_case(
+    case: Case,
+    parent: &mut [u32],
+    rank: &mut [u32],
+    times: &mut [u32],
+    x: &mut [u32],
+    y: &mut [u32],
+    work: &mut [u32],
+) {
+    show((parent.len() % 4294967296) as u32);
+    show_three(case.shape, case.relabelled as u32, case.balanced as u32);
+    plant(case, parent, rank, times, x, y, work);
+    let rule = rule_of(case.balanced);
+    draw(rule, parent, rank, times, x, y, work);
+    judge_twice(parent, rank, x, y, work);
+}
+
+// The case on the first n numbers of each list, and 4n of the work list.
+fn sized_case(
+    case: Case,
+    parent: &mut [u32],
+    rank: &mut [u32],
+    times: &mut [u32],
+    x: &mut [u32],
+    y: &mut [u32],
+    work: &mut [u32],
+) {
+    let n = case.size;
+    if parent.len() < n || rank.len() < n || times.len() < n || x.len() < n || y.len() < n {
+        return;
+    }
+    if work.len() / 4 < n {
+        return;
+    }
+    whole_case(
+        case,
+        &mut parent[..n],
+        &mut rank[..n],
+        &mut times[..n],
+        &mut x[..n],
+        &mut y[..n],
+        &mut work[..4 * n],
+    );
+}
+
+// How many nodes: at most 4,096 pass the check, and 65,536 the other calls.
+fn size_of(kind: u32) -> usize {
+    match kind {
+        0..=4 => 4096,
+        6 => 4097,
+        8 => 65537,
+        _ => 65536,
+    }
+}
+
+// The i-th case: every shape at 4,096 nodes and once more at another size, each with and without new numbers for the
+// nodes, under both rules.
+fn case_at(i: u32) -> Case {
+    Case {
+        shape: i / 4 % 5,
+        relabelled: i / 2 % 2 == 1,
+        balanced: i % 2 == 1,
+        size: size_of(i / 4),
+    }
+}
+
+// The forty cases.
+fn cases(
+    parent: &mut [u32],
+    rank: &mut [u32],
+    times: &mut [u32],
+    x: &mut [u32],
+    y: &mut [u32],
+    work: &mut [u32],
+) {
+    let mut i = 0;
+    while i < 40 {
+        let case = case_at(i);
+        sized_case(case, parent, rank, times, x, y, work);
+        i += 1;
+    }
+}
+
+fn main() {
+    let mut parent = [0u32; 65537];
+    let mut rank = [0u32; 65537];
+    let mut times = [0u32; 65537];
+    let mut x = [0u32; 65537];
+    let mut y = [0u32; 65537];
+    let mut work = [0u32; 262148];
+    cases(
+        &mut parent,
+        &mut rank,
+        &mut times,
+        &mut x,
+        &mut y,
+        &mut work,
+    );
+}
