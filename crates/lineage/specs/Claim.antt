@@ -9,7 +9,7 @@
 --   Claim L                 == it is so for every accepted table, both rules and every list of calls, at the limits L
 use mathlib.Core.Bool.{Bool, true, false, cond}
 use mathlib.Core.List.{List, [], _∷_}
-use mathlib.Core.Logic.{_≢_}
+use mathlib.Core.Logic.{_≢_, _↔_}
 use mathlib.Core.Path.{_≡_}
 use Prim.Native.Nat.{ℕ, _+_, _-_, _*_, _≤_, _<_}
 use lib.Dec.{eqb}
@@ -91,9 +91,9 @@ module _ (L : Limits) (P R : List ℕ) (rule : Rule) where
         → getD (t .x) v 0 ≡ pathSum P (λ z. acrossOf (edge P R rule z) * lengthOf s calls z) v
     pub places-y : (v : ℕ) → v < length P
         → getD (t .y) v 0 ≡ pathSum P (λ z. upOf (edge P R rule z) * lengthOf s calls z) v
-    -- up to 4,096 nodes, whatever the check answers is Monotone
+    -- up to 4,096 nodes, Monotone is what the check answers, and nothing else
     pub check : length P ≤ checked .nodes → (r : Verdict)
-        → Says checked P R (t .x) (t .y) (4 * length P) r → r ≡ Monotone
+        → Says checked P R (t .x) (t .y) (4 * length P) r ↔ (r ≡ Monotone)
 
 ------------------------------------------------------------------------
 -- The claim

@@ -5,7 +5,7 @@
 --   demand-3    == the claim at the large limits
 use mathlib.Core.Bool.{Bool, true, false, cond}
 use mathlib.Core.List.{List, [], _∷_}
-use mathlib.Core.Logic.{⊎-elim, _≢_}
+use mathlib.Core.Logic.{⊎-elim, _≢_, _↔_}
 use mathlib.Core.Option.{none, some}
 use mathlib.Core.Path.{_≡_, refl, sym, ap, subst⁻¹, _∙_}
 use Prim.Native.Nat.{ℕ, _+_, _*_, _≤_, _<_}
@@ -15,7 +15,7 @@ use lib.Dec.{eqb}
 use lib.IntN.{ℤ}
 use lib.ListN.{length, getD}
 use borrow.Author.Tests.{eq-eqb, ne-eqb, le-ltb}
-use Rattle.laws.specs.Refusals.{some-not-none, orElse-second, orElse-none, refuseLeast-no}
+use Rattle.laws.specs.Refusals.{orElse-second, orElse-none, refuseLeast-no}
 use Rattle.laws.specs.SearchLaws.{least-is}
 use Rattle.laws.specs.Tests.{by-eq, neither-is}
 use Rattle.table.specs.Acceptance.{shape-fits, accepting}
@@ -27,7 +27,7 @@ use Rattle.slopes.specs.declared.Rule.{Rule}
 use Rattle.slopes.specs.declared.Slope.{Slope}
 use Rattle.slopes.specs.Slopes.{acrossOf, upOf, edge}
 use Rattle.drawing.specs.CallLaws.{settled, Untouched, Stretching, layout-drawn, lengthen-does, shorten-does}
-use Rattle.drawing.specs.declared.Framed.the-variants.{Frame, Refused}
+use Rattle.drawing.specs.declared.Framed.the-variants.{Frame}
 use Rattle.drawing.specs.Drawing.{Drawing, lengthsFit, frame, pathSum, fresh, layout, lengthen, shorten}
 use Rattle.drawing.specs.DrawingLaws.{Coordinate, Drawn, stepOf}
 use Rattle.drawing.specs.FreshLaws.{Roomy, large-roomy, fresh-once}
@@ -36,8 +36,9 @@ use Rattle.direction.specs.declared.Heading.the-variants.{Along}
 use Rattle.direction.specs.Direction.{direction}
 use Rattle.direction.specs.DirectionLaws.{direction-rises, edges-apart}
 use Rattle.monotone.specs.declared.Verdict.{Verdict}
-use Rattle.monotone.specs.declared.Verdict.the-variants.{Monotone, Turns}
-use Rattle.monotone.specs.Monotone.{beyond, checkFault, Says}
+use Rattle.monotone.specs.declared.Verdict.the-variants.{Monotone}
+use Rattle.monotone.specs.Monotone.{HasDirection, beyond, checkFault, Says}
+use Rattle.monotone.specs.MonotoneLaws.{says-one}
 use Rattle.lineage.specs.Claim.{Call, Lengthen, Shorten, accepted, adds, takes, make, run, total, added, taken}
 use Rattle.lineage.specs.Claim.{lengthOf, Assured, Claim}
 
@@ -229,15 +230,21 @@ module _ (L : Limits) (fit : Fitting L) (P R : List ℕ) (rule : Rule) (long : B
           (le-ltb (checked .place) (getD (t .x) v 0) (omega (arith, r .drawn .x .within v l, fit .near)))
           (le-ltb (checked .place) (getD (t .y) v 0) (omega (arith, r .drawn .y .within v l, fit .near)))
 
-  says : length P ≤ checked .nodes → (a : Verdict) → Says checked P R (t .x) (t .y) (4 * length P) a → a ≡ Monotone
+  monotone : length P ≤ checked .nodes → Says checked P R (t .x) (t .y) (4 * length P) Monotone
   unfolding Says
-  says h Monotone c = refl
-  says h (Turns u v) c =
-      let d = directed u v (omega (arith, c .1 .ordered, c .1 .inside)) (c .1 .inside)
-      (λ e. omega (arith, c .1 .ordered)) in
-      absurd (c .1 .turns (record { d = d .0; e = d .1; rises = d .3 }))
-  says h (Rattle.monotone.specs.declared.Verdict.the-variants.Refused k v) c =
-      absurd (some-not-none (sym c ∙ unrefused h))
+  monotone h = (unrefused h, record { directed = pair })
+    where
+      pair : (u v : ℕ) → u < v → v < length P → HasDirection P (t .x) (t .y) u v
+      pair u v l b =
+          let d = directed u v (omega arith) b (λ e. omega arith) in
+          record { d = d .0; e = d .1; rises = d .3 }
+
+  says : length P ≤ checked .nodes → (a : Verdict)
+      → Says checked P R (t .x) (t .y) (4 * length P) a ↔ (a ≡ Monotone)
+  says h a = (
+    λ c. says-one checked P R (t .x) (t .y) (4 * length P) a Monotone c (monotone h),
+    λ e. subst⁻¹ (λ (b : Verdict). Says checked P R (t .x) (t .y) (4 * length P) b) e (monotone h),
+  )
 
   pub assured : Assured L P R rule s calls (run L P R rule s calls)
   unfolding t

@@ -325,32 +325,30 @@ impl Sheet {
         let (times, x, y, work) = (vec![0; n], vec![0; n], vec![0; n], vec![0; 4 * n]);
         let frame = Frame { width: 0, height: 0 };
         let mut sheet = Sheet { tree, rule, times, x, y, work, frame };
-        let mut reply = [0; 3];
-        let lists = raw::Lists { times: &mut sheet.times, x: &mut sheet.x, y: &mut sheet.y };
-        let (parent, rank) = (&sheet.tree.parent, &sheet.tree.rank);
-        let called = raw::layout(rule.balanced(), parent, rank, lists, &mut sheet.work, &mut reply);
+        let (mut reply, (balanced, parent, rank, lists, work)) = ([0; 3], sheet.lent());
+        let called = raw::layout(balanced, parent, rank, lists, work, &mut reply);
         sheet.framed(Call::Layout, called, reply)?;
         Ok(sheet)
     }
 
     /// Makes the edge of a lot longer by `count` times its slope; its whole subtree moves along.
     pub fn lengthen(&mut self, lot: u32, count: u32) -> Result<Frame, Refused> {
-        let mut reply = [0; 3];
-        let lists = raw::Lists { times: &mut self.times, x: &mut self.x, y: &mut self.y };
-        let (parent, rank) = (&self.tree.parent, &self.tree.rank);
-        let balanced = self.rule.balanced();
-        let called = raw::lengthen(balanced, parent, rank, lists, &mut self.work, lot, count, &mut reply);
+        let (mut reply, (balanced, parent, rank, lists, work)) = ([0; 3], self.lent());
+        let called = raw::lengthen(balanced, parent, rank, lists, work, lot, count, &mut reply);
         self.framed(Call::Lengthen, called, reply)
     }
 
     /// Makes it shorter again, to at least one times its slope.
     pub fn shorten(&mut self, lot: u32, count: u32) -> Result<Frame, Refused> {
-        let mut reply = [0; 3];
-        let lists = raw::Lists { times: &mut self.times, x: &mut self.x, y: &mut self.y };
-        let (parent, rank) = (&self.tree.parent, &self.tree.rank);
-        let balanced = self.rule.balanced();
-        let called = raw::shorten(balanced, parent, rank, lists, &mut self.work, lot, count, &mut reply);
+        let (mut reply, (balanced, parent, rank, lists, work)) = ([0; 3], self.lent());
+        let called = raw::shorten(balanced, parent, rank, lists, work, lot, count, &mut reply);
         self.framed(Call::Shorten, called, reply)
+    }
+
+    /// What a call that changes the sheet borrows.
+    fn lent(&mut self) -> (bool, &[u32], &[u32], raw::Lists<'_>, &mut [u32]) {
+        let lists = raw::Lists { times: &mut self.times, x: &mut self.x, y: &mut self.y };
+        (self.rule.balanced(), &self.tree.parent, &self.tree.rank, lists, &mut self.work)
     }
 
     fn framed(&mut self, call: Call, called: bool, reply: raw::Reply) -> Result<Frame, Refused> {

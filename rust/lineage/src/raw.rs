@@ -4,114 +4,48 @@
 //! length and any contents; what it cannot take it refuses. It returns `false`, having written nothing, where `reply` is not
 //! three numbers long.
 
-/// The C functions themselves.
+/// The C functions themselves: each list is its address and its length.
+#[rustfmt::skip]
 mod c {
+    type In = *const u32;
+    type InOut = *mut u32;
+
+    /// `lineage_lengthen` and `lineage_shorten`.
+    pub type Stretch = unsafe extern "C" fn(
+        bool, In, usize, In, usize, InOut, usize, InOut, usize, InOut, usize, InOut, usize, u32, u32, *mut i64, usize,
+    ) -> bool;
+
     extern "C" {
         pub fn lineage_layout(
-            balanced: bool,
-            parent: *const u32,
-            parents: usize,
-            rank: *const u32,
-            ranks: usize,
-            times: *mut u32,
-            times_length: usize,
-            x: *mut u32,
-            x_length: usize,
-            y: *mut u32,
-            y_length: usize,
-            work: *mut u32,
-            work_length: usize,
-            reply: *mut i64,
-            reply_length: usize,
+            balanced: bool, parent: In, parents: usize, rank: In, ranks: usize, times: InOut, times_length: usize,
+            x: InOut, x_length: usize, y: InOut, y_length: usize, work: InOut, work_length: usize,
+            reply: *mut i64, reply_length: usize,
         ) -> bool;
         pub fn lineage_lengthen(
-            balanced: bool,
-            parent: *const u32,
-            parents: usize,
-            rank: *const u32,
-            ranks: usize,
-            times: *mut u32,
-            times_length: usize,
-            x: *mut u32,
-            x_length: usize,
-            y: *mut u32,
-            y_length: usize,
-            work: *mut u32,
-            work_length: usize,
-            lot: u32,
-            count: u32,
-            reply: *mut i64,
-            reply_length: usize,
+            balanced: bool, parent: In, parents: usize, rank: In, ranks: usize, times: InOut, times_length: usize,
+            x: InOut, x_length: usize, y: InOut, y_length: usize, work: InOut, work_length: usize,
+            lot: u32, count: u32, reply: *mut i64, reply_length: usize,
         ) -> bool;
         pub fn lineage_shorten(
-            balanced: bool,
-            parent: *const u32,
-            parents: usize,
-            rank: *const u32,
-            ranks: usize,
-            times: *mut u32,
-            times_length: usize,
-            x: *mut u32,
-            x_length: usize,
-            y: *mut u32,
-            y_length: usize,
-            work: *mut u32,
-            work_length: usize,
-            lot: u32,
-            count: u32,
-            reply: *mut i64,
-            reply_length: usize,
+            balanced: bool, parent: In, parents: usize, rank: In, ranks: usize, times: InOut, times_length: usize,
+            x: InOut, x_length: usize, y: InOut, y_length: usize, work: InOut, work_length: usize,
+            lot: u32, count: u32, reply: *mut i64, reply_length: usize,
         ) -> bool;
         pub fn lineage_direction(
-            balanced: bool,
-            parent: *const u32,
-            parents: usize,
-            rank: *const u32,
-            ranks: usize,
-            work: *mut u32,
-            work_length: usize,
-            from: u32,
-            to: u32,
-            reply: *mut i64,
-            reply_length: usize,
+            balanced: bool, parent: In, parents: usize, rank: In, ranks: usize, work: InOut, work_length: usize,
+            from: u32, to: u32, reply: *mut i64, reply_length: usize,
         ) -> bool;
         pub fn lineage_check(
-            parent: *const u32,
-            parents: usize,
-            rank: *const u32,
-            ranks: usize,
-            x: *const u32,
-            x_length: usize,
-            y: *const u32,
-            y_length: usize,
-            work: *mut u32,
-            work_length: usize,
-            reply: *mut i64,
-            reply_length: usize,
+            parent: In, parents: usize, rank: In, ranks: usize, x: In, x_length: usize, y: In, y_length: usize,
+            work: InOut, work_length: usize, reply: *mut i64, reply_length: usize,
         ) -> bool;
         pub fn lineage_read_tree(
-            bytes: *const u8,
-            bytes_length: usize,
-            parent: *mut u32,
-            parents: usize,
-            rank: *mut u32,
-            ranks: usize,
-            work: *mut u32,
-            work_length: usize,
-            reply: *mut i64,
-            reply_length: usize,
+            bytes: *const u8, bytes_length: usize, parent: InOut, parents: usize, rank: InOut, ranks: usize,
+            work: InOut, work_length: usize, reply: *mut i64, reply_length: usize,
         ) -> bool;
         pub fn lineage_write_tree(
-            parent: *const u32,
-            parents: usize,
-            rank: *const u32,
-            ranks: usize,
-            bytes: *mut u8,
-            bytes_length: usize,
-            work: *mut u32,
-            work_length: usize,
-            reply: *mut i64,
-            reply_length: usize,
+            parent: In, parents: usize, rank: In, ranks: usize, bytes: *mut u8, bytes_length: usize,
+            work: InOut, work_length: usize, reply: *mut i64, reply_length: usize,
         ) -> bool;
     }
 }
@@ -147,9 +81,9 @@ pub fn layout(balanced: bool, parent: &[u32], rank: &[u32], s: Lists, work: &mut
     unsafe { c::lineage_layout(balanced, p, pn, r, rn, t, tn, x, xn, y, yn, w, wn, q, qn) }
 }
 
-/// {1, width, height}.
 #[allow(clippy::too_many_arguments)]
-pub fn lengthen(
+fn stretch(
+    call: c::Stretch,
     balanced: bool,
     parent: &[u32],
     rank: &[u32],
@@ -163,7 +97,22 @@ pub fn lengthen(
     let ((t, tn), (x, xn), (y, yn)) = (lend_mut!(s.times), lend_mut!(s.x), lend_mut!(s.y));
     let ((w, wn), (q, qn)) = (lend_mut!(work), lend_mut!(reply));
     // SAFETY: as in `layout`.
-    unsafe { c::lineage_lengthen(balanced, p, pn, r, rn, t, tn, x, xn, y, yn, w, wn, lot, count, q, qn) }
+    unsafe { call(balanced, p, pn, r, rn, t, tn, x, xn, y, yn, w, wn, lot, count, q, qn) }
+}
+
+/// {1, width, height}.
+#[allow(clippy::too_many_arguments)]
+pub fn lengthen(
+    balanced: bool,
+    parent: &[u32],
+    rank: &[u32],
+    s: Lists,
+    work: &mut [u32],
+    lot: u32,
+    count: u32,
+    reply: &mut [i64],
+) -> bool {
+    stretch(c::lineage_lengthen, balanced, parent, rank, s, work, lot, count, reply)
 }
 
 /// {1, width, height}.
@@ -178,11 +127,7 @@ pub fn shorten(
     count: u32,
     reply: &mut [i64],
 ) -> bool {
-    let ((p, pn), (r, rn)) = (lend!(parent), lend!(rank));
-    let ((t, tn), (x, xn), (y, yn)) = (lend_mut!(s.times), lend_mut!(s.x), lend_mut!(s.y));
-    let ((w, wn), (q, qn)) = (lend_mut!(work), lend_mut!(reply));
-    // SAFETY: as in `layout`.
-    unsafe { c::lineage_shorten(balanced, p, pn, r, rn, t, tn, x, xn, y, yn, w, wn, lot, count, q, qn) }
+    stretch(c::lineage_shorten, balanced, parent, rank, s, work, lot, count, reply)
 }
 
 /// {1, d, e}.
