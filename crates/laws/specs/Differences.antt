@@ -4,7 +4,7 @@
 use mathlib.Core.Path.{_≡_, ap}
 use Prim.Native.Nat.{ℕ, zero, suc, _+_, _*_, _<_, _≤_}
 use native.Mathlib.Omega.{arith}
-use lib.Dec.{ltb, lt→ltb, ltb→lt}
+use lib.Dec.{ltb, lt→ltb}
 use lib.IntN.{ℤ, pos, negsuc, negℤ, subℕ, _+ℤ_, _*ℤ_}
 use lib.Signed.{_<ℤ_}
 use borrow.Author.Tests.{ltb-true, ltb-false}
@@ -51,14 +51,6 @@ diff-mul (negsuc a) (negsuc b) m n k l h g = rw (h, g) (omega arith)
 pub diff-lt : (z : ℤ) (m n : ℕ) → IsDiff z m n → n < m → pos 0 <ℤ z
 diff-lt (pos a) m n h g = record { lt = lt→ltb 0 a (omega arith) }
 diff-lt (negsuc a) m n h g = absurd (omega arith)
-
-pub lt-diff : (z : ℤ) (m n : ℕ) → IsDiff z m n → pos 0 <ℤ z → n < m
-lt-diff (pos a) m n h g = let l : 0 < a = ltb→lt 0 a (g .lt) in omega arith
-lt-diff (negsuc a) m n h g = absurd (g .lt)
-
-pub diff-same : (z : ℤ) (m n k l : ℕ) → IsDiff z m n → IsDiff z k l → m + l ≡ k + n
-diff-same (pos a) m n k l h g = omega arith
-diff-same (negsuc a) m n k l h g = omega arith
 
 pub diff-eq : (z w : ℤ) (m n k l : ℕ) → IsDiff z m n → IsDiff w k l → m + l ≡ k + n → z ≡ w
 diff-eq (pos a) (pos b) m n k l h g e = ap pos (omega arith)

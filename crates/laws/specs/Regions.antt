@@ -7,8 +7,8 @@ use mathlib.Core.Path.{_≡_, refl, ap, subst⁻¹, _∙_}
 use Prim.Native.Nat.{ℕ, _≤_, _<_}
 use native.Mathlib.Omega.{arith}
 use lib.ListN.{length, getD, set, length-set}
-use lib.Seq.{getD-set-same, getD-set-other, ext-getD}
-use Rattle.laws.specs.Tests.{by-eq, by-lt}
+use lib.Seq.{getD-set-same, getD-set-other}
+use Rattle.laws.specs.Tests.{by-eq}
 
 pub record Only (a e : ℕ) (W X : List ℕ) : Type 0 where
   pub long : length X ≡ length W
@@ -48,8 +48,3 @@ only-store {a} {e} {X} {Y} i x h l q = record {
 -- one more store in the region
 pub only-set : {a e : ℕ} {W X Y : List ℕ} (i x : ℕ) → Only a e W X → a ≤ i → i < e → Y ≡ set X i x → Only a e W Y
 only-set i x o h l q = only-trans o (only-store i x h l q)
-
--- an empty region: nothing has changed
-pub only-none : {a e : ℕ} {W X : List ℕ} → Only a e W X → e ≤ a → X ≡ W
-only-none {a} {e} {W} {X} o h =
-    ext-getD 0 X W (o .long) (λ i l. by-lt i a (λ b. o .below i b) (λ b. o .above i (omega arith)))

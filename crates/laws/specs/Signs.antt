@@ -1,14 +1,10 @@
--- The order of whole numbers against zero: sums, products, negations, the cases of a sign, and what the order of two
--- natural numbers says of their difference.
-use mathlib.Core.Path.{_≡_, refl, sym, _∙_, ap, subst}
-use mathlib.Core.Logic.{_⊎_, inl, inr}
-use Prim.Native.Nat.{ℕ, zero, suc, _+_, _*_, _-_, _≤_, _<_, zero-le, suc-le-suc}
+-- The order of whole numbers against zero: sums, products, negations and squares.
+use mathlib.Core.Path.{_≡_, refl, subst}
+use Prim.Native.Nat.{ℕ, zero, suc, _+_, _*_, _≤_, _<_, zero-le, suc-le-suc}
 use native.Mathlib.Nat.{mul-pos}
-use native.Mathlib.Decide.{decLt}
 use native.Mathlib.Omega.{arith}
-use borrow.Author.Tests.{le-ltb}
 use lib.Dec.{ltb→lt, lt→ltb, leb→le, le→leb}
-use lib.IntN.{ℤ, pos, negsuc, negℤ, _+ℤ_, _-ℤ_, _*ℤ_, *ℤ-zero, *ℤ-negsuc, +ℤ-comm, negℤ-negℤ, negℤ-+ℤ}
+use lib.IntN.{ℤ, pos, negsuc, negℤ, _+ℤ_, _*ℤ_, *ℤ-zero, *ℤ-negsuc}
 use lib.Signed.{_<ℤ_, _≤ℤ_, <ℤ-irrefl}
 
 pub at-least : (n : ℕ) → pos 0 ≤ℤ pos n
@@ -105,12 +101,7 @@ cancel a (negsuc n) h k =
     absurd (not-both (a *ℤ pos (suc n)) (≤*≤ a (pos (suc n)) h (at-least (suc n))) (<-to (*ℤ-negsuc a n) k))
 
 ------------------------------------------------------------------------
--- The cases of a sign
-
-pub sign : (z : ℤ) → (z <ℤ pos 0) ⊎ ((z ≡ pos 0) ⊎ (pos 0 <ℤ z))
-sign (pos zero) = inr (inl refl)
-sign (pos (suc n)) = inr (inr (positive n))
-sign (negsuc n) = inl (record { lt = tt })
+-- Zero and squares
 
 pub ≤≥ : (z : ℤ) → z ≤ℤ pos 0 → pos 0 ≤ℤ z → z ≡ pos 0
 ≤≥ (pos zero) h k = refl
@@ -129,29 +120,3 @@ pub square⁺ : (z : ℤ) → (z ≡ pos 0 → ⊥) → pos 0 <ℤ (z *ℤ z)
 square⁺ (pos zero) h = absurd (h refl)
 square⁺ (pos (suc n)) h = above (mul-pos {m = suc n} (suc-le-suc zero-le) (suc-le-suc zero-le))
 square⁺ (negsuc n) h = above (mul-pos {m = suc n} (suc-le-suc zero-le) (suc-le-suc zero-le))
-
-------------------------------------------------------------------------
--- Differences of naturals
-
-pub diff : (a b : ℕ) → a ≤ b → pos b -ℤ pos a ≡ pos (b - a)
-diff zero b h = ap pos (let e : b + 0 ≡ b - 0 = omega arith in e)
-diff (suc a) b h = rw (le-ltb b (suc a) h)
-
-pub diff⁺ : (a b : ℕ) → a < b → pos 0 <ℤ (pos b -ℤ pos a)
-diff⁺ a b h = <-to (sym (diff a b (let l : a ≤ b = omega arith in l))) (above (let l : 0 < b - a = omega arith in l))
-
-pub diff⁻ : (a b : ℕ) → pos 0 <ℤ (pos b -ℤ pos a) → a < b
-diff⁻ a b h = go (decLt a b)
-  where
-    go : Dec (a < b) → a < b
-    go (yes l) = l
-    go (no f) =
-        let g : ¬ (a < b) = f in
-        let z : pos b -ℤ pos a ≡ negℤ (pos (a - b)) = flip a b (omega arith) in
-        absurd (not-both (pos (a - b)) (at-least (a - b)) (<-to z h))
-      where
-        flip : (a b : ℕ) → b ≤ a → pos b -ℤ pos a ≡ negℤ (pos (a - b))
-        flip a b k =
-            ap (λ (z : ℤ). pos b +ℤ z) (refl {a = negℤ (pos a)}) ∙ sym (negℤ-negℤ (pos b -ℤ pos a))
-            ∙ ap negℤ (negℤ-+ℤ (pos b) (negℤ (pos a)) ∙ ap (λ (z : ℤ). negℤ (pos b) +ℤ z) (negℤ-negℤ (pos a))
-            ∙ +ℤ-comm (negℤ (pos b)) (pos a) ∙ diff b a k)

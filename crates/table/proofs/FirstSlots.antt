@@ -24,15 +24,6 @@ pub record Zeroing (a e i : ℕ) (W X : List ℕ) : Type 0 where
   pub done : Zeroed a i X
   pub kept : Only a e W X
 
-pub zeroing-start : (a e : ℕ) (W : List ℕ) → a ≤ e → e ≤ length W → Zeroing a e a W W
-zeroing-start a e W h l = record {
-  from = omega arith;
-  upto = h;
-  fit = l;
-  done = record { at = λ k m o. absurd (omega arith) };
-  kept = only-refl a e W;
-}
-
 pub zeroing-in : {a e i : ℕ} {W X : List ℕ} → Zeroing a e i W X → i < e → i < length X
 zeroing-in z l = omega (arith, z .kept .long, z .fit)
 

@@ -47,9 +47,6 @@ stepping-start {P} W {v} l =
     record { upto = omega arith; is = sym (climb-zero P v); inside = l; passed = λ i m. absurd (omega arith) }
 
 module _ {P W : List ℕ} {v u k : ℕ} (w : Scratch P W) (i : Stepping P W v u k) where
-  pub stepping-in : length P + u < length W
-  stepping-in = omega (arith, w .room, i .inside)
-
   pub stepping-found : {x : ℕ} → k ≤ length P → x ≡ getD W (length P + u) 0 → 0 < x
       → k ≡ least (λ j. marked P W (climb P j v)) (length P + 1)
   stepping-found {x} l e h =

@@ -71,9 +71,6 @@ module _ {P R X : List ℕ} {v p r s e : ℕ} (w : Scratch P X) (d : Started P X
   pub parent-in : p < length P
   parent-in = omega (arith, t .parent-is, w .nodes .inside v l)
 
-  pub parent-room : p + 1 < length X
-  parent-room = omega (arith, parent-in, w .room)
-
   slot-right : s ≡ slot P R v
   slot-right =
       omega (

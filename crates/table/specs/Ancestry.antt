@@ -167,9 +167,6 @@ module _ {P R : List ℕ} (tree : Tree P R) where
   pub climb-depth : (v : ℕ) → v < length P → climb P (depth P v) v ≡ 0
   climb-depth v l = depth-found v l .1
 
-  pub climb-home : (k v : ℕ) → v < length P → length P ≤ k → climb P k v ≡ 0
-  climb-home k v l h = climb-stays P (tree .root) (length P) k v h (tree .leads-home v l)
-
   pub depth-climb : (k v : ℕ) → v < length P → depth P (climb P k v) ≡ depth P v - k
   unfolding depth
   depth-climb k v l =
@@ -252,12 +249,6 @@ module _ {P R : List ℕ} (tree : Tree P R) where
   rise-found u v lu lv =
       least-found (λ k. under P (climb P k u) v) (length P) (depth P u) (depth-below-n u lu)
       (subst (λ (z : ℕ). under P z v ≡ true) (sym (climb-depth u lu)) (under-root v lv))
-
-  pub rise-to-depth : (u v : ℕ) → u < length P → v < length P → rise P u v ≤ depth P u
-  rise-to-depth u v lu lv = rise-found u v lu lv .0
-
-  pub rise-below-n : (u v : ℕ) → u < length P → v < length P → rise P u v < length P
-  rise-below-n u v lu lv = omega (arith, rise-to-depth u v lu lv, depth-below-n u lu)
 
   pub rise-common : (u v : ℕ) → u < length P → v < length P → under P (climb P (rise P u v) u) v ≡ true
   rise-common u v lu lv = rise-found u v lu lv .1

@@ -8,7 +8,7 @@
 --   slot P R v           == v's place if the children of 0, of 1, .. are put one after the other, each in rank order
 use mathlib.Core.Bool.{true, false}
 use mathlib.Core.List.{List}
-use mathlib.Core.Path.{_≡_, refl, sym, ap, ap₂, subst, _∙_}
+use mathlib.Core.Path.{_≡_, refl, sym, ap, subst, _∙_}
 use Prim.Native.Nat.{ℕ, zero, suc, _+_, _≤_, _<_}
 use native.Mathlib.Omega.{arith}
 use lib.Dec.{ltb, eqb}
@@ -167,7 +167,3 @@ module _ (P R : List ℕ) (g : Ranked P R) where
       let k = childAt-is (parent P v) (rank R v) (g .below v a l) in
       trichotomy _ v (λ m. g .apart _ v (k .above) m l (k .up) (k .ranked))
       (λ m. g .apart v _ a m (k .inside) (sym (k .up)) (sym (k .ranked)))
-
-  pub childAt-unique : (p r v : ℕ) → ChildAt P R p r v → childAt P R p r ≡ v
-  childAt-unique p r v k =
-      ap₂ (λ (x y : ℕ). childAt P R x y) (sym (k .up)) (sym (k .ranked)) ∙ childAt-only v (k .above) (k .inside)

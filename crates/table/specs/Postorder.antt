@@ -293,9 +293,6 @@ module _ {P R : List ℕ} (t : Tree P R) where
   unfolding firstNumber
   first-is v l = omega (arith, number-is v l)
 
-  pub node-at : (v : ℕ) → v < length P → getD (order P R) (start P R v + ahead P R v (children P v)) 0 ≡ v
-  node-at v l = block-last v (start P R v) l (block-of v l)
-
   -- a node stands at its number
   pub place-of-number : (v : ℕ) → v < length P → getD (order P R) (postNumber P R v - 1) 0 ≡ v
   unfolding postNumber

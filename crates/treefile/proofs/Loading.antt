@@ -28,12 +28,6 @@ length-words B i n = length-tabulate n (λ v. wordAt B (i + 4 * v))
 module _ {L : Limits} {B P R W W₁ W₂ : List ℕ} (o : Opened L B P R W)
     (s : Copied P W₁ (2 * length P) × Only (2 * length P) (2 * length P + length P) W W₁)
     (t : Copied R W₂ (3 * length P) × Only (3 * length P) (3 * length P + length R) W₁ W₂) where
-  pub first-room : 2 * length P + length P ≤ length W
-  first-room = omega (arith, o .work)
-
-  pub second-room : 3 * length P + length R ≤ length W₁
-  second-room = omega (arith, o .work, o .ranks, s .1 .long)
-
   pub saved-long : length W₂ ≡ 4 * length P
   saved-long = t .1 .long ∙ s .1 .long ∙ o .work
 

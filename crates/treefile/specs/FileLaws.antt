@@ -36,14 +36,6 @@ by-four X a b c d (suc (suc zero)) l = c
 by-four X a b c d (suc (suc (suc zero))) l = d
 by-four X a b c d (suc (suc (suc (suc k)))) l = absurd (omega arith)
 
-pub byte-below : (w k : ℕ) → getD (bytesOf w) k 0 < 256
-unfolding bytesOf
-byte-below w zero = omega arith
-byte-below w (suc zero) = omega arith
-byte-below w (suc (suc zero)) = omega arith
-byte-below w (suc (suc (suc zero))) = omega arith
-byte-below w (suc (suc (suc (suc k)))) = omega arith
-
 parts : (w a b c d : ℕ) → w < 2 ^ 32 → a ≡ w % 256 → b ≡ w / 256 % 256 → c ≡ w / 65536 % 256 → d ≡ w / 16777216 % 256
     → a + 256 * b + (65536 * c + 16777216 * d) ≡ w
 parts w a b c d h ea eb ec ed =

@@ -21,21 +21,61 @@ fn now() -> f64 {
     time.seconds as f64 * 1e6 + time.nanoseconds as f64 / 1e3
 }
 
+/// One library's calls, on the lists of `Lists`.
 macro_rules! calls {
     ($module:ident, $layout:ident, $lengthen:ident, $shorten:ident, $direction:ident, $check:ident, $read:ident, $write:ident) => {
+        #[rustfmt::skip]
         mod $module {
-            #[rustfmt::skip]
+            use super::Lists;
+
+            type In = *const u32;
+            type InOut = *mut u32;
+
             extern "C" {
-                pub fn $layout(b: bool, p: *const u32, pn: usize, r: *const u32, rn: usize, t: *mut u32, tn: usize, x: *mut u32, xn: usize, y: *mut u32, yn: usize, w: *mut u32, wn: usize, q: *mut i64, qn: usize) -> bool;
-                pub fn $lengthen(b: bool, p: *const u32, pn: usize, r: *const u32, rn: usize, t: *mut u32, tn: usize, x: *mut u32, xn: usize, y: *mut u32, yn: usize, w: *mut u32, wn: usize, lot: u32, count: u32, q: *mut i64, qn: usize) -> bool;
-                pub fn $shorten(b: bool, p: *const u32, pn: usize, r: *const u32, rn: usize, t: *mut u32, tn: usize, x: *mut u32, xn: usize, y: *mut u32, yn: usize, w: *mut u32, wn: usize, lot: u32, count: u32, q: *mut i64, qn: usize) -> bool;
-                pub fn $direction(b: bool, p: *const u32, pn: usize, r: *const u32, rn: usize, w: *mut u32, wn: usize, from: u32, to: u32, q: *mut i64, qn: usize) -> bool;
-                pub fn $check(p: *const u32, pn: usize, r: *const u32, rn: usize, x: *const u32, xn: usize, y: *const u32, yn: usize, w: *mut u32, wn: usize, q: *mut i64, qn: usize) -> bool;
-                pub fn $read(b: *const u8, bn: usize, p: *mut u32, pn: usize, r: *mut u32, rn: usize, w: *mut u32, wn: usize, q: *mut i64, qn: usize) -> bool;
-                pub fn $write(p: *const u32, pn: usize, r: *const u32, rn: usize, b: *mut u8, bn: usize, w: *mut u32, wn: usize, q: *mut i64, qn: usize) -> bool;
+                fn $layout(b: bool, p: In, pn: usize, r: In, rn: usize, t: InOut, tn: usize, x: InOut, xn: usize, y: InOut, yn: usize, w: InOut, wn: usize, q: *mut i64, qn: usize) -> bool;
+                fn $lengthen(b: bool, p: In, pn: usize, r: In, rn: usize, t: InOut, tn: usize, x: InOut, xn: usize, y: InOut, yn: usize, w: InOut, wn: usize, lot: u32, count: u32, q: *mut i64, qn: usize) -> bool;
+                fn $shorten(b: bool, p: In, pn: usize, r: In, rn: usize, t: InOut, tn: usize, x: InOut, xn: usize, y: InOut, yn: usize, w: InOut, wn: usize, lot: u32, count: u32, q: *mut i64, qn: usize) -> bool;
+                fn $direction(b: bool, p: In, pn: usize, r: In, rn: usize, w: InOut, wn: usize, from: u32, to: u32, q: *mut i64, qn: usize) -> bool;
+                fn $check(p: In, pn: usize, r: In, rn: usize, x: In, xn: usize, y: In, yn: usize, w: InOut, wn: usize, q: *mut i64, qn: usize) -> bool;
+                fn $read(b: *const u8, bn: usize, p: InOut, pn: usize, r: InOut, rn: usize, w: InOut, wn: usize, q: *mut i64, qn: usize) -> bool;
+                fn $write(p: In, pn: usize, r: In, rn: usize, b: *mut u8, bn: usize, w: InOut, wn: usize, q: *mut i64, qn: usize) -> bool;
             }
-            pub use self::{$layout as layout, $lengthen as lengthen, $shorten as shorten};
-            pub use self::{$direction as direction, $check as check, $read as read_tree, $write as write_tree};
+
+            // SAFETY, of all: each address has its list's length, and the lists are apart.
+            pub fn layout(l: &mut Lists, balanced: bool) {
+                let n = l.lots();
+                assert!(unsafe { $layout(balanced, l.parent.as_ptr(), n, l.rank.as_ptr(), n, l.times.as_mut_ptr(), n, l.x.as_mut_ptr(), n, l.y.as_mut_ptr(), n, l.work.as_mut_ptr(), 4 * n, l.reply.as_mut_ptr(), 3) });
+            }
+
+            pub fn lengthen(l: &mut Lists, balanced: bool, lot: u32) {
+                let n = l.lots();
+                assert!(unsafe { $lengthen(balanced, l.parent.as_ptr(), n, l.rank.as_ptr(), n, l.times.as_mut_ptr(), n, l.x.as_mut_ptr(), n, l.y.as_mut_ptr(), n, l.work.as_mut_ptr(), 4 * n, lot, 1, l.reply.as_mut_ptr(), 3) });
+            }
+
+            pub fn shorten(l: &mut Lists, balanced: bool, lot: u32) {
+                let n = l.lots();
+                assert!(unsafe { $shorten(balanced, l.parent.as_ptr(), n, l.rank.as_ptr(), n, l.times.as_mut_ptr(), n, l.x.as_mut_ptr(), n, l.y.as_mut_ptr(), n, l.work.as_mut_ptr(), 4 * n, lot, 1, l.reply.as_mut_ptr(), 3) });
+            }
+
+            pub fn direction(l: &mut Lists, balanced: bool, from: u32, to: u32) {
+                let n = l.lots();
+                assert!(unsafe { $direction(balanced, l.parent.as_ptr(), n, l.rank.as_ptr(), n, l.work.as_mut_ptr(), 4 * n, from, to, l.reply.as_mut_ptr(), 3) });
+            }
+
+            pub fn check(l: &mut Lists) {
+                let n = l.lots();
+                assert!(unsafe { $check(l.parent.as_ptr(), n, l.rank.as_ptr(), n, l.x.as_ptr(), n, l.y.as_ptr(), n, l.work.as_mut_ptr(), 4 * n, l.reply.as_mut_ptr(), 3) });
+            }
+
+            pub fn read_tree(l: &mut Lists) {
+                let n = l.lots();
+                assert!(unsafe { $read(l.bytes.as_ptr(), 4 + 8 * n, l.parent.as_mut_ptr(), n, l.rank.as_mut_ptr(), n, l.work.as_mut_ptr(), 4 * n, l.reply.as_mut_ptr(), 3) });
+            }
+
+            pub fn write_tree(l: &mut Lists) {
+                let n = l.lots();
+                assert!(unsafe { $write(l.parent.as_ptr(), n, l.rank.as_ptr(), n, l.bytes.as_mut_ptr(), 4 + 8 * n, l.work.as_mut_ptr(), 4 * n, l.reply.as_mut_ptr(), 3) });
+            }
         }
     };
 }
@@ -73,6 +113,12 @@ struct Lists {
     reply: [i64; 3],
 }
 
+impl Lists {
+    fn lots(&self) -> usize {
+        self.parent.len()
+    }
+}
+
 fn lists(shape: &str, n: usize) -> Lists {
     let (mut parent, mut rank, mut count) = (vec![0u32; n], vec![0u32; n], vec![0u32; n]);
     let mut state = 12345u64;
@@ -90,108 +136,6 @@ fn lists(shape: &str, n: usize) -> Lists {
     }
     let (times, x, y) = (vec![0; n], vec![0; n], vec![0; n]);
     Lists { parent, rank, times, x, y, work: vec![0; 4 * n], bytes: vec![0; 4 + 8 * n], reply: [0; 3] }
-}
-
-macro_rules! call {
-    ($side:ident, layout, $l:expr, $b:expr) => {
-        $side::layout(
-            $b,
-            $l.parent.as_ptr(),
-            $l.parent.len(),
-            $l.rank.as_ptr(),
-            $l.rank.len(),
-            $l.times.as_mut_ptr(),
-            $l.times.len(),
-            $l.x.as_mut_ptr(),
-            $l.x.len(),
-            $l.y.as_mut_ptr(),
-            $l.y.len(),
-            $l.work.as_mut_ptr(),
-            $l.work.len(),
-            $l.reply.as_mut_ptr(),
-            3,
-        )
-    };
-    ($side:ident, stretch $which:ident, $l:expr, $b:expr, $lot:expr) => {
-        $side::$which(
-            $b,
-            $l.parent.as_ptr(),
-            $l.parent.len(),
-            $l.rank.as_ptr(),
-            $l.rank.len(),
-            $l.times.as_mut_ptr(),
-            $l.times.len(),
-            $l.x.as_mut_ptr(),
-            $l.x.len(),
-            $l.y.as_mut_ptr(),
-            $l.y.len(),
-            $l.work.as_mut_ptr(),
-            $l.work.len(),
-            $lot,
-            1,
-            $l.reply.as_mut_ptr(),
-            3,
-        )
-    };
-    ($side:ident, direction, $l:expr, $b:expr, $u:expr, $v:expr) => {
-        $side::direction(
-            $b,
-            $l.parent.as_ptr(),
-            $l.parent.len(),
-            $l.rank.as_ptr(),
-            $l.rank.len(),
-            $l.work.as_mut_ptr(),
-            $l.work.len(),
-            $u,
-            $v,
-            $l.reply.as_mut_ptr(),
-            3,
-        )
-    };
-    ($side:ident, check, $l:expr) => {
-        $side::check(
-            $l.parent.as_ptr(),
-            $l.parent.len(),
-            $l.rank.as_ptr(),
-            $l.rank.len(),
-            $l.x.as_ptr(),
-            $l.x.len(),
-            $l.y.as_ptr(),
-            $l.y.len(),
-            $l.work.as_mut_ptr(),
-            $l.work.len(),
-            $l.reply.as_mut_ptr(),
-            3,
-        )
-    };
-    ($side:ident, read, $l:expr) => {
-        $side::read_tree(
-            $l.bytes.as_ptr(),
-            $l.bytes.len(),
-            $l.parent.as_mut_ptr(),
-            $l.parent.len(),
-            $l.rank.as_mut_ptr(),
-            $l.rank.len(),
-            $l.work.as_mut_ptr(),
-            $l.work.len(),
-            $l.reply.as_mut_ptr(),
-            3,
-        )
-    };
-    ($side:ident, write, $l:expr) => {
-        $side::write_tree(
-            $l.parent.as_ptr(),
-            $l.parent.len(),
-            $l.rank.as_ptr(),
-            $l.rank.len(),
-            $l.bytes.as_mut_ptr(),
-            $l.bytes.len(),
-            $l.work.as_mut_ptr(),
-            $l.work.len(),
-            $l.reply.as_mut_ptr(),
-            3,
-        )
-    };
 }
 
 /// The medians and the least of the times, in microseconds, of two calls that are made in turn; `undo` is made between and
@@ -239,12 +183,12 @@ impl Table {
 fn stretchable(l: &mut Lists, balanced: bool) -> u32 {
     let mut lot = 1;
     loop {
-        unsafe { call!(plain, stretch lengthen, l, balanced, lot) };
+        plain::lengthen(l, balanced, lot);
         if l.reply[0] == 1 {
-            unsafe { call!(plain, stretch shorten, l, balanced, lot) };
+            plain::shorten(l, balanced, lot);
             return lot;
         }
-        lot = (2 * lot).min(l.parent.len() as u32 - 1);
+        lot = (2 * lot).min(l.lots() as u32 - 1);
     }
 }
 
@@ -260,57 +204,33 @@ fn main() {
             let mut l = lists(shape, n);
             let m = n as u32;
             for (rule, b) in [("steep", false), ("balanced", true)] {
-                let both = pair(
-                    samples,
-                    &mut l,
-                    &|l| unsafe { assert!(call!(proved, layout, l, b)) },
-                    &|l| unsafe { assert!(call!(plain, layout, l, b)) },
-                    nothing,
-                );
+                let both = pair(samples, &mut l, &|l| proved::layout(l, b), &|l| plain::layout(l, b), nothing);
                 table.line("layout", rule, shape, n, both);
                 let lot = stretchable(&mut l, b);
-                let both = pair(
-                    samples,
-                    &mut l,
-                    &|l| unsafe { assert!(call!(proved, stretch lengthen, l, b, lot)) },
-                    &|l| unsafe { assert!(call!(plain, stretch lengthen, l, b, lot)) },
-                    &|l| unsafe { assert!(call!(plain, stretch shorten, l, b, lot)) },
-                );
+                let both =
+                    pair(samples, &mut l, &|l| proved::lengthen(l, b, lot), &|l| plain::lengthen(l, b, lot), &|l| {
+                        plain::shorten(l, b, lot)
+                    });
                 table.line("lengthen", rule, shape, n, both);
-                unsafe { call!(plain, stretch lengthen, &mut l, b, lot) };
-                let both = pair(
-                    samples,
-                    &mut l,
-                    &|l| unsafe { assert!(call!(proved, stretch shorten, l, b, lot)) },
-                    &|l| unsafe { assert!(call!(plain, stretch shorten, l, b, lot)) },
-                    &|l| unsafe { assert!(call!(plain, stretch lengthen, l, b, lot)) },
-                );
+                plain::lengthen(&mut l, b, lot);
+                let both =
+                    pair(samples, &mut l, &|l| proved::shorten(l, b, lot), &|l| plain::shorten(l, b, lot), &|l| {
+                        plain::lengthen(l, b, lot)
+                    });
                 table.line("shorten", rule, shape, n, both);
-                unsafe { call!(plain, layout, &mut l, b) };
+                plain::layout(&mut l, b);
                 let both = pair(
                     samples,
                     &mut l,
-                    &|l| unsafe { assert!(call!(proved, direction, l, b, m - 1, m / 2)) },
-                    &|l| unsafe { assert!(call!(plain, direction, l, b, m - 1, m / 2)) },
+                    &|l| proved::direction(l, b, m - 1, m / 2),
+                    &|l| plain::direction(l, b, m - 1, m / 2),
                     nothing,
                 );
                 table.line("direction", rule, shape, n, both);
             }
-            let both = pair(
-                samples,
-                &mut l,
-                &|l| unsafe { assert!(call!(proved, write, l)) },
-                &|l| unsafe { assert!(call!(plain, write, l)) },
-                nothing,
-            );
+            let both = pair(samples, &mut l, &proved::write_tree, &plain::write_tree, nothing);
             table.line("write_tree", "", shape, n, both);
-            let both = pair(
-                samples,
-                &mut l,
-                &|l| unsafe { assert!(call!(proved, read, l)) },
-                &|l| unsafe { assert!(call!(plain, read, l)) },
-                nothing,
-            );
+            let both = pair(samples, &mut l, &proved::read_tree, &plain::read_tree, nothing);
             table.line("read_tree", "", shape, n, both);
         }
     }
@@ -318,14 +238,8 @@ fn main() {
         for shape in ["chain", "star", "random", "binary"] {
             let mut l = lists(shape, n);
             for (rule, b) in [("steep", false), ("balanced", true)] {
-                unsafe { call!(plain, layout, &mut l, b) };
-                let both = pair(
-                    (samples / 2).max(3),
-                    &mut l,
-                    &|l| unsafe { assert!(call!(proved, check, l)) },
-                    &|l| unsafe { assert!(call!(plain, check, l)) },
-                    nothing,
-                );
+                plain::layout(&mut l, b);
+                let both = pair((samples / 2).max(3), &mut l, &proved::check, &plain::check, nothing);
                 table.line("check", rule, shape, n, both);
             }
         }

@@ -1,5 +1,4 @@
 -- The nodes with numbers above j are drawn.
-use mathlib.Core.Path.{sym, _∙_}
 use native.Mathlib.Omega.{arith}
 use Rattle.drawing.specs.Drawing.{lent}
 use Rattle.drawing.proofs.Laying.{Laying, laying-start, laying-node, laying-x, laying-y, laying-step, laying-end}
@@ -51,10 +50,7 @@ get-requires-2 c κs =
     laying-node (at-loop .loop .inv) (at-loop-test .loop-test .taken) (c .get .ensures .0) .inside
 
 slope-at-requires : tie.Need-slope-at-requires Inv-loop μ-loop
-slope-at-requires c κs =
-    let at-loop-test = c .before .before in
-    let at-loop = at-loop-test .before in
-    (at-loop-test .loop-test .taken, at-loop .loop .inv .low, omega (arith, at-loop .loop .inv .numbered .few))
+slope-at-requires c κs = omega arith
 
 put-requires-4 : tie.Need-put-requires-4 Inv-loop μ-loop
 put-requires-4 c κs =
@@ -105,28 +101,13 @@ loop-again c =
     (at-put4 .put4 .ensures) (at-hang .hang .ensures) (at-hang2 .hang2 .ensures)
 
 same-length : tie.Need-same-length Inv-loop μ-loop
-same-length c =
-    let at-loop = c .before in
-    let at-entry =
-    at-loop .before .before .before .before .before .before .before .before .before .before .before .before .before
-    .before .before .before .before .before .before in
-    at-loop .loop .inv .times .long ∙ sym (at-entry .pre .sized .times)
+same-length c = omega arith
 
 same-length-2 : tie.Need-same-length-2 Inv-loop μ-loop
-same-length-2 c =
-    let at-loop = c .before in
-    let at-entry =
-    at-loop .before .before .before .before .before .before .before .before .before .before .before .before .before
-    .before .before .before .before .before .before in
-    at-loop .loop .inv .x .long ∙ sym (at-entry .pre .sized .x)
+same-length-2 c = omega arith
 
 same-length-3 : tie.Need-same-length-3 Inv-loop μ-loop
-same-length-3 c =
-    let at-loop = c .before in
-    let at-entry =
-    at-loop .before .before .before .before .before .before .before .before .before .before .before .before .before
-    .before .before .before .before .before .before in
-    at-loop .loop .inv .y .long ∙ sym (at-entry .pre .sized .y)
+same-length-3 c = omega arith
 
 returns : tie.Need-returns Inv-loop μ-loop
 returns c =

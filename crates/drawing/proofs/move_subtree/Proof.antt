@@ -1,5 +1,4 @@
 -- The places of the subtree up to number j are moved.
-use mathlib.Core.Path.{sym, _∙_}
 use Prim.Native.Nat.{_-_}
 use native.Mathlib.Omega.{arith}
 use Rattle.drawing.proofs.Subtrees.{Moving, first-some, walk-node, moving-start, moving-can, moving-fits}
@@ -93,9 +92,7 @@ loop-again c =
     (at-changed .changed .ensures) (at-put .put .ensures)
 
 same-length : tie.Need-same-length Inv-loop μ-loop
-same-length c =
-    let at-loop = c .before in
-    at-loop .loop .inv .long ∙ sym (at-loop .loop .inv .can .long)
+same-length c = omega arith
 
 returns : tie.Need-returns Inv-loop μ-loop
 returns c =

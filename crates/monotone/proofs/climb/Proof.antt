@@ -20,9 +20,7 @@ abbrev μ-loop : tie.MeasureT-loop
 μ-loop parent work₀ u n cone₀ z₀ work cone z = depth parent z
 
 put-requires : tie.Need-put-requires Inv-loop μ-loop
-put-requires c κs =
-    let start = c .before .before .before in
-    (omega (arith, start .pre .0 .0 .edges .long), omega arith)
+put-requires c κs = omega arith
 
 loop-holds : tie.Need-loop-holds Inv-loop μ-loop
 loop-holds c =
@@ -54,7 +52,7 @@ module _ (c : tie.At-loop Inv-loop μ-loop) where
   here-edges = turning-edges (c .loop .inv .turning) (c .loop .inv .only .long) first-edges
 
 get-requires : tie.Need-get-requires Inv-loop μ-loop
-get-requires c κs = c .before .loop .inv .turning .inside
+get-requires c κs = omega arith
 
 turn-edge-requires : tie.Need-turn-edge-requires Inv-loop μ-loop
 turn-edge-requires c κs =
@@ -120,7 +118,7 @@ loop-again c =
     (kept .put2 .ensures ∙ ap (λ (p : ℕ). set (turned .turn-edge .last .0) p (grown .grow .result)) is-parent))
 
 same-length : tie.Need-same-length Inv-loop μ-loop
-same-length c = c .before .loop .inv .only .long ∙ first-only (c .before) .long
+same-length c = omega arith
 
 returns : tie.Need-returns Inv-loop μ-loop
 returns c =

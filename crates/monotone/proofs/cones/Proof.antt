@@ -16,7 +16,7 @@ abbrev μ-loop : tie.MeasureT-loop
 μ-loop parent work₀ u n j₀ work j = j
 
 clear-requires : tie.Need-clear-requires Inv-loop μ-loop
-clear-requires c κs = (omega arith, omega (arith, c .before .before .before .pre .0 .edges .long))
+clear-requires c κs = omega arith
 
 ------------------------------------------------------------------------
 -- After each step
@@ -66,17 +66,13 @@ sub-j : tie.Need-sub-j Inv-loop μ-loop
 sub-j c = omega arith
 
 mul-get : tie.Need-mul-get Inv-loop μ-loop
-mul-get c = omega (arith, here (c .before .before) .edges .few)
+mul-get c = omega arith
 
 add-get : tie.Need-add-get Inv-loop μ-loop
-add-get c =
-    let turn = c .before .before in
-    omega (arith, here turn .edges .few, turn .loop .inv .few)
+add-get c = omega arith
 
 get-requires : tie.Need-get-requires Inv-loop μ-loop
-get-requires c κs =
-    let turn = c .before .before in
-    omega (arith, here turn .edges .long, turn .loop .inv .few, c .before .loop-test .taken)
+get-requires c κs = omega arith
 
 visit-requires : tie.Need-visit-requires Inv-loop μ-loop
 visit-requires c κs =
@@ -92,7 +88,7 @@ visit-requires c κs =
     )
 
 loop-less : tie.Need-loop-less Inv-loop μ-loop
-loop-less c = omega (arith, c .before .before .before .before .before .before .loop-test .taken)
+loop-less c = omega arith
 
 loop-again : tie.Need-loop-again Inv-loop μ-loop
 loop-again c =
@@ -125,7 +121,7 @@ module _ (c : tie.After-turn Inv-loop μ-loop) where
       (at .loop .inv) (c .turn .ensures)
 
 same-length : tie.Need-same-length Inv-loop μ-loop
-same-length c = result (c .before .before) .only .long
+same-length c = omega arith
 
 returns : tie.Need-returns Inv-loop μ-loop
 returns c = result (c .before .before)

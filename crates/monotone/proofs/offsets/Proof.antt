@@ -21,9 +21,7 @@ get-requires : tie.Need-get-requires Inv-loop μ-loop
 get-requires c κs = c .loop-test .taken
 
 get-requires-2 : tie.Need-get-requires-2 Inv-loop μ-loop
-get-requires-2 c κs =
-    let start = c .before .before .before .before .before .before in
-    omega (arith, c .before .loop-test .taken, start .pre .0 .long)
+get-requires-2 c κs = omega arith
 
 -- the numbers read at z
 module _ (c : tie.After-get3 Inv-loop μ-loop) where
@@ -53,12 +51,10 @@ get-requires-3 c κs =
     omega (arith, c .before .get .ensures .0, inside, start .pre .0 .long)
 
 add-put : tie.Need-add-put Inv-loop μ-loop
-add-put c =
-    let read = c .before in
-    omega (arith, in-range read, start read .pre .1, turn read .loop .inv .only .long)
+add-put c = omega arith
 
 add-put-2 : tie.Need-add-put-2 Inv-loop μ-loop
-add-put-2 c = omega (arith, below-near (c .before))
+add-put-2 c = omega arith
 
 sub-put : tie.Need-sub-put Inv-loop μ-loop
 sub-put c = omega (arith, above-near (c .before))
@@ -71,10 +67,10 @@ put-requires c κs =
     )
 
 add-z : tie.Need-add-z Inv-loop μ-loop
-add-z c = omega (arith, in-range (c .before .before .before .before))
+add-z c = omega arith
 
 loop-less : tie.Need-loop-less Inv-loop μ-loop
-loop-less c = omega (arith, in-range (c .before .before .before .before))
+loop-less c = omega arith
 
 loop-again : tie.Need-loop-again Inv-loop μ-loop
 loop-again c =
@@ -87,7 +83,7 @@ loop-again c =
     (read .before .get2 .ensures .0) (above-is read))
 
 same-length : tie.Need-same-length Inv-loop μ-loop
-same-length c = c .before .loop .inv .only .long
+same-length c = omega arith
 
 returns : tie.Need-returns Inv-loop μ-loop
 returns c = (offsetting-end (c .loop-test .left) (c .before .loop .inv), c .before .loop .inv .only)

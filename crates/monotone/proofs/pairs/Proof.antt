@@ -36,9 +36,7 @@ cones-requires c κs =
     )
 
 add-v : tie.Need-add-v Inv-loop μ-loop Inv-pairs μ-pairs
-add-v c =
-    let test = c .before .before .before .before in
-    omega (arith, test .pairs-test .taken)
+add-v c = omega arith
 
 loop-holds : tie.Need-loop-holds Inv-loop μ-loop Inv-pairs μ-pairs
 loop-holds c =
@@ -68,27 +66,19 @@ module _ (c : tie.At-loop Inv-loop μ-loop Inv-pairs μ-pairs) where
   kept = only-trans (row .pairs .inv .only) (coned .cones .ensures .only)
 
 get-requires : tie.Need-get-requires Inv-loop μ-loop Inv-pairs μ-pairs
-get-requires c κs =
-    let place = c .before .before in
-    omega (arith, c .before .loop-test .taken, kept place .long, start place .pre .0 .edges .long)
+get-requires c κs = omega arith
 
 cast-t15 : tie.Need-cast-t15 Inv-loop μ-loop Inv-pairs μ-pairs
-cast-t15 c =
-    let place = c .before .before .before .before in
-    omega (arith, in-row place, start place .pre .0 .edges .few)
+cast-t15 c = omega arith
 
 cast-t16 : tie.Need-cast-t16 Inv-loop μ-loop Inv-pairs μ-pairs
-cast-t16 c =
-    let place = c .before .before .before .before in
-    omega (arith, c .before .before .before .loop-test .taken, start place .pre .0 .edges .few)
+cast-t16 c = omega arith
 
 add-v-2 : tie.Need-add-v-2 Inv-loop μ-loop Inv-pairs μ-pairs
-add-v-2 c =
-    let place = c .before .before .before .before in
-    omega (arith, c .before .before .before .loop-test .taken, start place .pre .0 .edges .few)
+add-v-2 c = omega arith
 
 loop-less : tie.Need-loop-less Inv-loop μ-loop Inv-pairs μ-pairs
-loop-less c = omega (arith, c .before .before .before .loop-test .taken)
+loop-less c = omega arith
 
 loop-again : tie.Need-loop-again Inv-loop μ-loop Inv-pairs μ-pairs
 loop-again c =
@@ -103,12 +93,10 @@ loop-again c =
     }
 
 add-u : tie.Need-add-u Inv-loop μ-loop Inv-pairs μ-pairs
-add-u c =
-    let place = c .before in
-    omega (arith, in-row place, start place .pre .0 .edges .few)
+add-u c = omega arith
 
 pairs-less : tie.Need-pairs-less Inv-loop μ-loop Inv-pairs μ-pairs
-pairs-less c = omega (arith, in-row (c .before))
+pairs-less c = omega arith
 
 pairs-again : tie.Need-pairs-again Inv-loop μ-loop Inv-pairs μ-pairs
 pairs-again c =
@@ -123,7 +111,7 @@ pairs-again c =
     }
 
 same-length : tie.Need-same-length Inv-loop μ-loop Inv-pairs μ-pairs
-same-length c = c .before .pairs .inv .only .long
+same-length c = omega arith
 
 returns : tie.Need-returns Inv-loop μ-loop Inv-pairs μ-pairs
 returns c x y d =
@@ -133,7 +121,7 @@ returns c x y d =
     (all-passed (c .pairs-test .left) (rows .pairs .inv .passed) x y d)
 
 same-length-2 : tie.Need-same-length-2 Inv-loop μ-loop Inv-pairs μ-pairs
-same-length-2 c = kept (c .before .before .before .before) .long
+same-length-2 c = omega arith
 
 returns-2 : tie.Need-returns-2 Inv-loop μ-loop Inv-pairs μ-pairs
 returns-2 c =

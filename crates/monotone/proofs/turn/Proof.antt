@@ -29,9 +29,7 @@ turn-edge-requires c κs =
     (turning-edges (inv .0) (inv .1 .long) (known .0 .edges), c .before .loop-test .taken, inv .0 .inside)
 
 get-requires : tie.Need-get-requires Inv-loop μ-loop
-get-requires c κs =
-    let turned = c .before .before in
-    turned .before .before .before .loop .inv .0 .inside
+get-requires c κs = omega arith
 
 loop-less : tie.Need-loop-less Inv-loop μ-loop
 loop-less c =

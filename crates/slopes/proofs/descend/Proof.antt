@@ -29,9 +29,7 @@ mediant-requires c κs =
     walk-fits (turning .loop .inv) (turning .before .pre .0)
 
 shr-turn : tie.Need-shr-turn Inv-loop μ-loop
-shr-turn c =
-    let turning = c .before .before in
-    omega (arith, turning .loop .inv .inside, turning .before .pre .0)
+shr-turn c = omega arith
 
 sub-bit-2 : tie.Need-sub-bit-2 Inv-loop μ-loop
 sub-bit-2 c = omega arith

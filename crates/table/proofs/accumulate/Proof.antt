@@ -19,30 +19,19 @@ loop-holds c =
     accumulating-start (at-entry .pre .1)
 
 get-requires : tie.Need-get-requires Inv-loop μ-loop
-get-requires c κs =
-    let at-loop-test = c .before in
-    let at-loop = at-loop-test .before in
-    let at-entry = at-loop .before .before .before in
-    omega (arith, accumulating-in (at-entry .pre .0) (at-loop .loop .inv) (at-loop-test .loop-test .taken))
+get-requires c κs = omega arith
 
 add-get : tie.Need-add-get Inv-loop μ-loop
 add-get c = omega arith
 
 get-requires-2 : tie.Need-get-requires-2 Inv-loop μ-loop
-get-requires-2 c κs =
-    let at-loop-test = c .before .before .before in
-    let at-loop = at-loop-test .before in
-    let at-entry = at-loop .before .before .before in
-    accumulating-in (at-entry .pre .0) (at-loop .loop .inv) (at-loop-test .loop-test .taken)
+get-requires-2 c κs = omega arith
 
 add-put : tie.Need-add-put Inv-loop μ-loop
 add-put c = omega arith
 
 add-put-2 : tie.Need-add-put-2 Inv-loop μ-loop
-add-put-2 c =
-    let at-get2 = c .before in
-    let at-get = at-get2 .before .before in
-    omega (arith, at-get .get .ensures, at-get2 .get2 .ensures)
+add-put-2 c = omega arith
 
 put-requires : tie.Need-put-requires Inv-loop μ-loop
 put-requires c κs =
@@ -78,9 +67,7 @@ loop-again c =
     (at-get .get .ensures .0) (at-get2 .get2 .ensures .0) (at-put .put .ensures)
 
 same-length : tie.Need-same-length Inv-loop μ-loop
-same-length c =
-    let at-loop = c .before in
-    at-loop .loop .inv .kept .long
+same-length c = omega arith
 
 returns : tie.Need-returns Inv-loop μ-loop
 returns c =

@@ -22,9 +22,7 @@ get-requires : tie.Need-get-requires Inv-loop μ-loop
 get-requires c κs = omega arith
 
 get-requires-2 : tie.Need-get-requires-2 Inv-loop μ-loop
-get-requires-2 c κs =
-    let at-entry = c .before .before .before .before .before .before in
-    omega (arith, at-entry .pre .0 .1)
+get-requires-2 c κs = omega arith
 
 get-requires-3 : tie.Need-get-requires-3 Inv-loop μ-loop
 get-requires-3 c κs =
@@ -39,14 +37,10 @@ get-requires-3 c κs =
     )
 
 add-s : tie.Need-add-s Inv-loop μ-loop
-add-s c =
-    let at-get2 = c .before in
-    omega (arith, at-get2 .get2 .ensures, c .get3 .ensures)
+add-s c = omega arith
 
 add-get : tie.Need-add-get Inv-loop μ-loop
-add-get c =
-    let at-get = c .before .before in
-    omega (arith, at-get .get .ensures)
+add-get c = omega arith
 
 get-requires-4 : tie.Need-get-requires-4 Inv-loop μ-loop
 get-requires-4 c κs =
@@ -78,10 +72,7 @@ add-get-2 : tie.Need-add-get-2 Inv-loop μ-loop
 add-get-2 c = omega arith
 
 add-get-3 : tie.Need-add-get-3 Inv-loop μ-loop
-add-get-3 c =
-    let at-get3 = c .before .before in
-    let at-get2 = at-get3 .before in
-    omega (arith, at-get2 .get2 .ensures, at-get3 .get3 .ensures)
+add-get-3 c = omega arith
 
 get-requires-5 : tie.Need-get-requires-5 Inv-loop μ-loop
 get-requires-5 c κs =

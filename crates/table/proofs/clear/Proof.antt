@@ -1,7 +1,7 @@
 -- The numbers from a up to i are zero, and nothing outside has changed.
 use Prim.Native.Nat.{_-_}
 use native.Mathlib.Omega.{arith}
-use Rattle.table.proofs.FirstSlots.{Zeroing, zeroing-start, zeroing-in, zeroing-step, zeroing-end}
+use Rattle.table.proofs.FirstSlots.{Zeroing, zeroing-step, zeroing-end}
 use Rattle.table.proofs.clear.Statement.{statement}
 use Rattle.table.proofs.clear.Tie as tie
 
@@ -12,10 +12,10 @@ abbrev μ-loop : tie.MeasureT-loop
 μ-loop work₀ a e i₀ work i = e - i
 
 loop-holds : tie.Need-loop-holds Inv-loop μ-loop
-loop-holds c = zeroing-start _ _ _ (c .before .pre .0) (c .before .pre .1)
+loop-holds c = omega arith
 
 put-requires : tie.Need-put-requires Inv-loop μ-loop
-put-requires c κs = (zeroing-in (c .before .before .loop .inv) (c .before .loop-test .taken), omega arith)
+put-requires c κs = omega arith
 
 add-i : tie.Need-add-i Inv-loop μ-loop
 add-i c = omega arith
@@ -29,7 +29,7 @@ loop-again c =
     zeroing-step (turn .before .loop .inv) (turn .loop-test .taken) (c .before .before .put .ensures)
 
 same-length : tie.Need-same-length Inv-loop μ-loop
-same-length c = c .before .loop .inv .kept .long
+same-length c = omega arith
 
 returns : tie.Need-returns Inv-loop μ-loop
 returns c = zeroing-end (c .before .loop .inv) (c .loop-test .left)

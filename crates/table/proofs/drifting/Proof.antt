@@ -25,9 +25,7 @@ steps-requires c κs =
     (at-loop .loop .inv .scratch, at-loop-test .loop-test .taken)
 
 same-length : tie.Need-same-length Inv-loop μ-loop
-same-length c =
-    let at-loop = c .before .before .before .before in
-    at-loop .loop .inv .kept .long
+same-length c = omega arith
 
 returns : tie.Need-returns Inv-loop μ-loop
 returns c =
@@ -64,9 +62,7 @@ loop-again c =
     (at-mark .mark .ensures)
 
 same-length-2 : tie.Need-same-length-2 Inv-loop μ-loop
-same-length-2 c =
-    let at-loop = c .before in
-    at-loop .loop .inv .kept .long
+same-length-2 c = omega arith
 
 returns-2 : tie.Need-returns-2 Inv-loop μ-loop
 returns-2 c =

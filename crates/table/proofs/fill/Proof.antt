@@ -22,9 +22,7 @@ get-requires : tie.Need-get-requires Inv-loop μ-loop
 get-requires c κs = omega arith
 
 get-requires-2 : tie.Need-get-requires-2 Inv-loop μ-loop
-get-requires-2 c κs =
-    let at-entry = c .before .before .before .before .before .before in
-    omega (arith, at-entry .pre .tree .long)
+get-requires-2 c κs = omega arith
 
 get-requires-3 : tie.Need-get-requires-3 Inv-loop μ-loop
 get-requires-3 c κs =
@@ -36,18 +34,13 @@ get-requires-3 c κs =
     (at-get2 .get2 .ensures .0)
 
 add-s : tie.Need-add-s Inv-loop μ-loop
-add-s c =
-    let at-get2 = c .before .before in
-    omega (arith, at-get2 .get2 .ensures, c .get3 .ensures)
+add-s c = omega arith
 
 add-put : tie.Need-add-put Inv-loop μ-loop
 add-put c = omega arith
 
 add-put-2 : tie.Need-add-put-2 Inv-loop μ-loop
-add-put-2 c =
-    let at-get3 = c .before in
-    let at-get2 = at-get3 .before .before in
-    omega (arith, at-get2 .get2 .ensures, at-get3 .get3 .ensures)
+add-put-2 c = omega arith
 
 put-requires : tie.Need-put-requires Inv-loop μ-loop
 put-requires c κs =
@@ -82,9 +75,7 @@ loop-again c =
     (filled, filled .ready .long ∙ sym (at-entry .pre .long))
 
 same-length : tie.Need-same-length Inv-loop μ-loop
-same-length c =
-    let at-loop = c .before in
-    at-loop .loop .inv .1
+same-length c = omega arith
 
 returns : tie.Need-returns Inv-loop μ-loop
 returns c =

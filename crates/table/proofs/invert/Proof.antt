@@ -24,10 +24,7 @@ add-get : tie.Need-add-get Inv-loop μ-loop
 add-get c = omega arith
 
 get-requires : tie.Need-get-requires Inv-loop μ-loop
-get-requires c κs =
-    let at-loop = c .before .before in
-    let at-entry = at-loop .before .before .before .before in
-    omega (arith, at-loop .loop .inv .kept .long, at-entry .pre .seated .ready .long)
+get-requires c κs = omega arith
 
 add-put : tie.Need-add-put Inv-loop μ-loop
 add-put c = omega arith
@@ -59,9 +56,7 @@ loop-again c =
     (at-put .put .ensures)
 
 same-length : tie.Need-same-length Inv-loop μ-loop
-same-length c =
-    let at-loop = c .before in
-    at-loop .loop .inv .kept .long
+same-length c = omega arith
 
 returns : tie.Need-returns Inv-loop μ-loop
 returns c =

@@ -1,6 +1,5 @@
 -- The subtrees on the way down start with the same node, and shrink.
 use native.Mathlib.Omega.{arith}
-use mathlib.Core.Path.{refl}
 use Rattle.table.specs.Postorder.{size}
 use Rattle.table.proofs.Walks.{Descending, first-in, descending-slot, descending-inside, descending-step}
 use Rattle.table.proofs.Walks.{descending-less, descending-end}
@@ -14,37 +13,22 @@ abbrev μ-loop : tie.MeasureT-loop
 μ-loop parent rank work v n u₀ s₀ u s = size parent rank u
 
 get-requires : tie.Need-get-requires Inv-loop μ-loop
-get-requires c κs =
-    let at-entry = c .before .before .before in
-    omega (arith, first-in (at-entry .pre .0 .ready) _ (at-entry .pre .1))
+get-requires c κs = omega arith
 
 loop-holds : tie.Need-loop-holds Inv-loop μ-loop
-loop-holds c =
-    let at-entry = c .before .before .before .before in
-    record { inside = at-entry .pre .1; same = refl; slots = c .get .ensures .0 }
+loop-holds c = omega arith
 
 add-get : tie.Need-add-get Inv-loop μ-loop
-add-get c = omega (arith, c .loop .inv .inside)
+add-get c = omega arith
 
 get-requires-2 : tie.Need-get-requires-2 Inv-loop μ-loop
-get-requires-2 c κs =
-    let at-entry = c .before .before .before .before .before in
-    first-in (at-entry .pre .0 .ready) _ (c .loop .inv .inside)
+get-requires-2 c κs = omega arith
 
 add-get-2 : tie.Need-add-get-2 Inv-loop μ-loop
 add-get-2 c = omega arith
 
 add-get-3 : tie.Need-add-get-3 Inv-loop μ-loop
-add-get-3 c =
-    let at-get2 = c .before in
-    let at-loop = at-get2 .before in
-    let at-entry = at-loop .before .before .before .before .before in
-    omega (
-      arith,
-      descending-slot (at-entry .pre .0) (at-loop .loop .inv) (at-get2 .get2 .ensures .0)
-          (c .if1 .taken),
-      at-entry .pre .0 .ready .long,
-    )
+add-get-3 c = omega arith
 
 get-requires-3 : tie.Need-get-requires-3 Inv-loop μ-loop
 get-requires-3 c κs =

@@ -35,9 +35,7 @@ get-requires c κs =
     passing-inside (at-entry .pre) (at-loop .loop .inv)
 
 add-i : tie.Need-add-i Inv-loop μ-loop
-add-i c =
-    let at-entry = c .before .before .before .before .before .before .before .before .before in
-    omega (arith, at-entry .pre .steps)
+add-i c = omega arith
 
 loop-less : tie.Need-loop-less Inv-loop μ-loop
 loop-less c = omega arith
@@ -52,9 +50,7 @@ loop-again c =
     (c .get .ensures .0)
 
 same-length : tie.Need-same-length Inv-loop μ-loop
-same-length c =
-    let at-loop = c .before in
-    at-loop .loop .inv .kept .long
+same-length c = omega arith
 
 returns : tie.Need-returns Inv-loop μ-loop
 returns c =

@@ -5,14 +5,10 @@ use Rattle.table.proofs.next.Statement.{statement}
 use Rattle.table.proofs.next.Tie as tie
 
 get-requires : tie.Need-get-requires
-get-requires c κs =
-    let at-entry = c .before .before .before in
-    at-entry .pre .2
+get-requires c κs = omega arith
 
 get-requires-2 : tie.Need-get-requires-2
-get-requires-2 c κs =
-    let at-entry = c .before .before .before .before in
-    omega (arith, at-entry .pre .0 .ready .tree .long, at-entry .pre .2)
+get-requires-2 c κs = omega arith
 
 get-requires-3 : tie.Need-get-requires-3
 get-requires-3 c κs =
@@ -26,19 +22,13 @@ get-requires-3 c κs =
     )
 
 add-s : tie.Need-add-s
-add-s c =
-    let at-get2 = c .before in
-    omega (arith, at-get2 .get2 .ensures, c .get3 .ensures)
+add-s c = omega arith
 
 add-s-2 : tie.Need-add-s-2
-add-s-2 c =
-    let at-get2 = c .before in
-    omega (arith, at-get2 .get2 .ensures, c .get3 .ensures)
+add-s-2 c = omega arith
 
 add-get : tie.Need-add-get
-add-get c =
-    let at-get = c .before .before in
-    omega (arith, at-get .get .ensures)
+add-get c = omega arith
 
 get-requires-4 : tie.Need-get-requires-4
 get-requires-4 c κs =
@@ -65,18 +55,7 @@ add-get-2 : tie.Need-add-get-2
 add-get-2 c = omega arith
 
 add-get-3 : tie.Need-add-get-3
-add-get-3 c =
-    let at-get4 = c .before in
-    let at-get3 = at-get4 .before in
-    let at-get2 = at-get3 .before in
-    let at-get = at-get2 .before in
-    let at-entry = at-get .before .before .before .before in
-    omega (
-      arith,
-      next-slot (at-entry .pre .0) (at-entry .pre .1) (at-entry .pre .2) (at-get .get .ensures .0)
-          (at-get2 .get2 .ensures .0) (at-get3 .get3 .ensures .0) (at-get4 .get4 .ensures .0) (c .if1 .left),
-      at-entry .pre .0 .ready .long,
-    )
+add-get-3 c = omega arith
 
 get-requires-5 : tie.Need-get-requires-5
 get-requires-5 c κs =

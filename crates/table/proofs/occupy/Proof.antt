@@ -42,9 +42,7 @@ loop-again c =
     (at-seat .seat .ensures .0, omega arith, only-trans (at-loop .loop .inv .2) (at-seat .seat .ensures .1))
 
 same-length : tie.Need-same-length Inv-loop μ-loop
-same-length c =
-    let at-loop = c .before in
-    at-loop .loop .inv .2 .long
+same-length c = omega arith
 
 returns : tie.Need-returns Inv-loop μ-loop
 returns c =

@@ -11,9 +11,7 @@ get-requires : tie.Need-get-requires
 get-requires c κs = search needs
 
 get-requires-2 : tie.Need-get-requires-2
-get-requires-2 c κs =
-    let at-entry = c .before .before .before .before in
-    omega (arith, at-entry .pre .0 .long)
+get-requires-2 c κs = omega arith
 
 get-requires-3 : tie.Need-get-requires-3
 get-requires-3 c κs =
@@ -21,14 +19,10 @@ get-requires-3 c κs =
     omega (arith, at-entry .pre .0 .scratch .nodes .inside _ (at-entry .pre .1), at-entry .pre .0 .scratch .room)
 
 add-s : tie.Need-add-s
-add-s c =
-    let at-get2 = c .before .before in
-    omega (arith, at-get2 .get2 .ensures, c .get3 .ensures)
+add-s c = omega arith
 
 add-get : tie.Need-add-get
-add-get c =
-    let at-get = c .before .before .before .before in
-    omega (arith, at-get .get .ensures)
+add-get c = omega arith
 
 get-requires-4 : tie.Need-get-requires-4
 get-requires-4 c κs =
@@ -55,10 +49,7 @@ add-get-2 : tie.Need-add-get-2
 add-get-2 c = omega arith
 
 add-get-3 : tie.Need-add-get-3
-add-get-3 c =
-    let at-get3 = c .before .before .before .before in
-    let at-get2 = at-get3 .before .before in
-    omega (arith, at-get2 .get2 .ensures, at-get3 .get3 .ensures)
+add-get-3 c = omega arith
 
 get-requires-5 : tie.Need-get-requires-5
 get-requires-5 c κs =
@@ -76,15 +67,10 @@ add-put : tie.Need-add-put
 add-put c = omega arith
 
 add-put-2 : tie.Need-add-put-2
-add-put-2 c =
-    let at-get3 = c .before .before .before .before .before .before in
-    let at-get2 = at-get3 .before .before in
-    omega (arith, at-get2 .get2 .ensures, at-get3 .get3 .ensures)
+add-put-2 c = omega arith
 
 add-put-3 : tie.Need-add-put-3
-add-put-3 c =
-    let at-get5 = c .before in
-    omega (arith, at-get5 .get5 .ensures)
+add-put-3 c = omega arith
 
 put-requires : tie.Need-put-requires
 put-requires c κs =

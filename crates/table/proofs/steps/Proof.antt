@@ -2,7 +2,7 @@
 use Prim.Native.Nat.{_+_, _-_}
 use native.Mathlib.Omega.{arith}
 use lib.ListN.{length}
-use Rattle.table.proofs.Marks.{Stepping, stepping-start, stepping-in, stepping-found, stepping-step}
+use Rattle.table.proofs.Marks.{Stepping, stepping-start, stepping-found, stepping-step}
 use Rattle.table.proofs.Marks.{stepping-end}
 use Rattle.table.proofs.steps.Statement.{statement}
 use Rattle.table.proofs.steps.Tie as tie
@@ -19,15 +19,10 @@ loop-holds c =
     stepping-start _ (at-entry .pre .1)
 
 add-get : tie.Need-add-get Inv-loop μ-loop
-add-get c =
-    let at-loop = c .before in
-    omega (arith, at-loop .loop .inv .inside)
+add-get c = omega arith
 
 get-requires : tie.Need-get-requires Inv-loop μ-loop
-get-requires c κs =
-    let at-loop = c .before in
-    let at-entry = at-loop .before .before .before in
-    stepping-in (at-entry .pre .0) (at-loop .loop .inv)
+get-requires c κs = omega arith
 
 returns : tie.Need-returns Inv-loop μ-loop
 returns c =
@@ -39,9 +34,7 @@ returns c =
     (at-get .get .ensures .0) (c .if1 .taken)
 
 get-requires-2 : tie.Need-get-requires-2 Inv-loop μ-loop
-get-requires-2 c κs =
-    let at-loop = c .before .before .before in
-    at-loop .loop .inv .inside
+get-requires-2 c κs = omega arith
 
 add-k : tie.Need-add-k Inv-loop μ-loop
 add-k c = omega arith

@@ -8,14 +8,10 @@ use Rattle.table.proofs.structure.Statement.{statement}
 use Rattle.table.proofs.structure.Tie as tie
 
 stray-parent-requires : tie.Need-stray-parent-requires
-stray-parent-requires c κs =
-    let at-entry = c .before .before .before in
-    at-entry .pre .some
+stray-parent-requires c κs = omega arith
 
 cast-t9 : tie.Need-cast-t9
-cast-t9 c =
-    let at-entry = c .before .before .before .before .before in
-    omega (arith, at-entry .pre .few)
+cast-t9 c = omega arith
 
 returns : tie.Need-returns
 returns c =
@@ -64,23 +60,10 @@ bad-rank-requires c κs =
     )
 
 cast-t17 : tie.Need-cast-t17
-cast-t17 c =
-    let at-entry =
-    c .before .before .before .before .before .before .before .before .before .before .before .before .before .before
-    .before .before in
-    omega (arith, at-entry .pre .few)
+cast-t17 c = omega arith
 
 same-length : tie.Need-same-length
-same-length c =
-    let at-bad-rank = c .before in
-    let at-occupy = at-bad-rank .before .before .before .before in
-    let at-starts = at-occupy .before .before .before .before in
-    let at-if1 = at-starts .before .before in
-    let at-stray-parent = at-if1 .before in
-    let at-entry = at-stray-parent .before .before .before .before in
-    structured-6 (at-entry .pre) (at-stray-parent .stray-parent .ensures) (at-if1 .if1 .left)
-    (at-starts .starts .ensures) (at-occupy .occupy .ensures) (at-bad-rank .bad-rank .ensures)
-    (c .if2 .taken) .kept .long
+same-length c = omega arith
 
 returns-2 : tie.Need-returns-2
 returns-2 c =
@@ -94,27 +77,13 @@ returns-2 c =
     (at-starts .starts .ensures) (at-occupy .occupy .ensures) (at-bad-rank .bad-rank .ensures) (c .if2 .taken)
 
 add-clear : tie.Need-add-clear
-add-clear c =
-    let at-entry =
-    c .before .before .before .before .before .before .before .before .before .before .before .before .before .before
-    .before .before .before in
-    omega (arith, at-entry .pre .few)
+add-clear c = omega arith
 
 mul-clear : tie.Need-mul-clear
-mul-clear c =
-    let at-entry =
-    c .before .before .before .before .before .before .before .before .before .before .before .before .before .before
-    .before .before .before in
-    omega (arith, at-entry .pre .few)
+mul-clear c = omega arith
 
 clear-requires : tie.Need-clear-requires
-clear-requires c κs =
-    let at-occupy = c .before .before .before .before .before .before in
-    let at-starts = at-occupy .before .before .before .before in
-    let at-entry = at-starts .before .before .before .before .before .before .before in (
-      omega (arith, at-entry .pre .some),
-      omega (arith, at-entry .pre .long, at-occupy .occupy .ensures .1 .long, at-starts .starts .ensures .2 .long),
-    )
+clear-requires c κs = omega arith
 
 drifting-requires : tie.Need-drifting-requires
 drifting-requires c κs =
@@ -134,26 +103,10 @@ drifting-requires c κs =
     )
 
 cast-t24 : tie.Need-cast-t24
-cast-t24 c =
-    let at-entry =
-    c .before .before .before .before .before .before .before .before .before .before .before .before .before .before
-    .before .before .before .before .before .before .before .before .before .before .before in
-    omega (arith, at-entry .pre .few)
+cast-t24 c = omega arith
 
 same-length-2 : tie.Need-same-length-2
-same-length-2 c =
-    let at-drifting = c .before .before .before in
-    let at-clear = at-drifting .before .before .before .before in
-    let at-if2 = at-clear .before .before in
-    let at-bad-rank = at-if2 .before in
-    let at-occupy = at-bad-rank .before .before .before .before in
-    let at-starts = at-occupy .before .before .before .before in
-    let at-if1 = at-starts .before .before in
-    let at-stray-parent = at-if1 .before in
-    let at-entry = at-stray-parent .before .before .before .before in
-    structured-7 (at-entry .pre) (at-stray-parent .stray-parent .ensures) (at-if1 .if1 .left)
-    (at-starts .starts .ensures) (at-occupy .occupy .ensures) (at-bad-rank .bad-rank .ensures) (at-if2 .if2 .left)
-    (at-clear .clear .ensures .1) (at-drifting .drifting .ensures) (c .if3 .taken) .kept .long
+same-length-2 c = omega arith
 
 returns-3 : tie.Need-returns-3
 returns-3 c =
@@ -171,19 +124,7 @@ returns-3 c =
     (at-clear .clear .ensures .1) (at-drifting .drifting .ensures) (c .if3 .taken)
 
 same-length-3 : tie.Need-same-length-3
-same-length-3 c =
-    let at-drifting = c .before .before .before in
-    let at-clear = at-drifting .before .before .before .before in
-    let at-if2 = at-clear .before .before in
-    let at-bad-rank = at-if2 .before in
-    let at-occupy = at-bad-rank .before .before .before .before in
-    let at-starts = at-occupy .before .before .before .before in
-    let at-if1 = at-starts .before .before in
-    let at-stray-parent = at-if1 .before in
-    let at-entry = at-stray-parent .before .before .before .before in
-    structured-all (at-entry .pre) (at-stray-parent .stray-parent .ensures) (at-if1 .if1 .left)
-    (at-starts .starts .ensures) (at-occupy .occupy .ensures) (at-bad-rank .bad-rank .ensures) (at-if2 .if2 .left)
-    (at-clear .clear .ensures .1) (at-drifting .drifting .ensures) (c .if3 .left) .kept .long
+same-length-3 c = omega arith
 
 returns-4 : tie.Need-returns-4
 returns-4 c =

@@ -22,7 +22,7 @@ get-requires : tie.Need-get-requires Inv-loop μ-loop
 get-requires c κs = omega arith
 
 add-p : tie.Need-add-p Inv-loop μ-loop
-add-p c = omega (arith, c .get .ensures)
+add-p c = omega arith
 
 get-requires-2 : tie.Need-get-requires-2 Inv-loop μ-loop
 get-requires-2 c κs =
@@ -33,9 +33,7 @@ get-requires-2 c κs =
     tallying-in (at-entry .pre .0) (at-loop .loop .inv) (at-loop-test .loop-test .taken) (at-get .get .ensures .0)
 
 add-put : tie.Need-add-put Inv-loop μ-loop
-add-put c =
-    let at-get2 = c .before in
-    omega (arith, at-get2 .get2 .ensures)
+add-put c = omega arith
 
 put-requires : tie.Need-put-requires Inv-loop μ-loop
 put-requires c κs =
@@ -71,9 +69,7 @@ loop-again c =
     (at-get .get .ensures .0) (at-get2 .get2 .ensures .0) (at-put .put .ensures)
 
 same-length : tie.Need-same-length Inv-loop μ-loop
-same-length c =
-    let at-loop = c .before in
-    at-loop .loop .inv .kept .long
+same-length c = omega arith
 
 returns : tie.Need-returns Inv-loop μ-loop
 returns c =

@@ -1,5 +1,5 @@
 -- The shape first, then the root, then the rest by `structure`.
-use mathlib.Core.Path.{_∙_, sym}
+use mathlib.Core.Path.{_∙_}
 use native.Mathlib.Omega.{arith}
 use borrow.Author.Needs.{needs}
 use borrow.Author.Tests.{not-true, not-false}
@@ -73,26 +73,10 @@ returns-7 c =
     (λ _ e. c .if7 .taken (at-get2 .get2 .ensures .0 ∙ e))
 
 structure-requires : tie.Need-structure-requires
-structure-requires c κs =
-    let at-if7 = c .before in
-    let at-get2 = at-if7 .before in
-    let at-if6 = at-get2 .before in
-    let at-get = at-if6 .before in
-    let at-if5 = at-get .before in
-    let at-if3 = at-if5 .before .before in
-    record {
-      some = omega arith;
-      few = omega arith;
-      ranks = at-if3 .if3 .left;
-      long = at-if5 .if5 .left;
-      root-parent = sym (at-get .get .ensures .0) ∙ at-if6 .if6 .left;
-      root-rank = sym (at-get2 .get2 .ensures .0) ∙ at-if7 .if7 .left;
-    }
+structure-requires c κs = omega arith
 
 same-length : tie.Need-same-length
-same-length c =
-    let at-structure = c .before .before in
-    at-structure .structure .ensures .kept .long
+same-length c = omega arith
 
 returns-8 : tie.Need-returns-8
 returns-8 c =

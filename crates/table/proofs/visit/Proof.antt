@@ -1,7 +1,7 @@
 -- v stands at its place of the order; its first number is its first child's, which is visited, or its own at a leaf.
 use native.Mathlib.Omega.{arith}
 use borrow.Author.Needs.{needs}
-use Rattle.table.proofs.Walks.{first-in, visited-room, visited-order, noted-seated, leaf-first, visited-slot}
+use Rattle.table.proofs.Walks.{visited-room, visited-order, noted-seated, leaf-first, visited-slot}
 use Rattle.table.proofs.Walks.{visited-child, child-first, visited-step}
 use Rattle.table.proofs.visit.Statement.{statement}
 use Rattle.table.proofs.visit.Tie as tie
@@ -22,25 +22,13 @@ put-requires c κs =
     )
 
 get-requires : tie.Need-get-requires
-get-requires c κs =
-    let at-put = c .before .before .before in
-    let at-entry = at-put .before .before .before .before .before in
-    omega (
-      arith,
-      first-in
-          (noted-seated (at-entry .pre .0) (at-entry .pre .1) (at-entry .pre .2) (at-put .put .ensures) .ready) _
-          (at-entry .pre .1),
-    )
+get-requires c κs = omega arith
 
 add-get : tie.Need-add-get
 add-get c = omega arith
 
 get-requires-2 : tie.Need-get-requires-2
-get-requires-2 c κs =
-    let at-put = c .before .before .before .before .before in
-    let at-entry = at-put .before .before .before .before .before in
-    first-in (noted-seated (at-entry .pre .0) (at-entry .pre .1) (at-entry .pre .2) (at-put .put .ensures) .ready)
-    _ (at-entry .pre .1)
+get-requires-2 c κs = omega arith
 
 mul-put-2 : tie.Need-mul-put-2
 mul-put-2 c = omega arith
@@ -91,19 +79,7 @@ add-get-2 : tie.Need-add-get-2
 add-get-2 c = omega arith
 
 add-get-3 : tie.Need-add-get-3
-add-get-3 c =
-    let at-if1 = c .before in
-    let at-get2 = at-if1 .before in
-    let at-get = at-get2 .before .before in
-    let at-put = at-get .before .before .before .before in
-    let at-entry = at-put .before .before .before .before .before in
-    omega (
-      arith,
-      visited-slot (at-entry .pre .0) (at-entry .pre .1) (at-entry .pre .2) (at-put .put .ensures)
-          (at-get .get .ensures .0) (at-get2 .get2 .ensures .0) (at-if1 .if1 .left),
-      noted-seated (at-entry .pre .0)
-          (at-entry .pre .1) (at-entry .pre .2) (at-put .put .ensures) .ready .long,
-    )
+add-get-3 c = omega arith
 
 get-requires-3 : tie.Need-get-requires-3
 get-requires-3 c κs =
@@ -119,9 +95,7 @@ mul-get : tie.Need-mul-get
 mul-get c = omega arith
 
 add-get-4 : tie.Need-add-get-4
-add-get-4 c =
-    let at-get3 = c .before in
-    omega (arith, at-get3 .get3 .ensures)
+add-get-4 c = omega arith
 
 get-requires-4 : tie.Need-get-requires-4
 get-requires-4 c κs =
@@ -141,18 +115,7 @@ add-put-4 : tie.Need-add-put-4
 add-put-4 c = omega arith
 
 put-requires-3 : tie.Need-put-requires-3
-put-requires-3 c κs =
-    let at-get4 = c .before in
-    let at-put = at-get4 .before .before .before .before .before .before .before .before .before .before .before in
-    let at-entry = at-put .before .before .before .before .before in (
-      omega (
-        arith,
-        at-entry .pre .1,
-        noted-seated (at-entry .pre .0) (at-entry .pre .1) (at-entry .pre .2)
-            (at-put .put .ensures) .ready .long,
-      ),
-      at-get4 .get4 .ensures .1,
-    )
+put-requires-3 c κs = omega arith
 
 same-length-2 : tie.Need-same-length-2
 same-length-2 c = search needs

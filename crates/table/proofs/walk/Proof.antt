@@ -62,10 +62,7 @@ visit-requires-2 c κs =
     (at-loop .loop .inv .0 .visited, at-loop .loop .inv .0 .inside, at-loop .loop .inv .0 .number)
 
 same-length : tie.Need-same-length Inv-loop μ-loop
-same-length c =
-    let at-visit2 = c .before .before in
-    let at-entry = at-visit2 .before .before .before .before .before .before .before .before .before in
-    at-visit2 .visit2 .ensures .seated .ready .long ∙ sym (at-entry .pre .ready .long)
+same-length c = omega arith
 
 returns : tie.Need-returns Inv-loop μ-loop
 returns c =

@@ -1,5 +1,4 @@
 -- The number without its last digits is written; the power d of ten says how many.
-use mathlib.Core.Path.{_∙_}
 use native.Mathlib.Omega.{arith}
 use Rattle.text.proofs.Spelling.{Spelling, first-digit, spelling-start, spelling-room, spelling-step}
 use Rattle.text.proofs.Spelling.{spelling-end}
@@ -14,17 +13,13 @@ abbrev μ-loop : tie.MeasureT-loop
 μ-loop out₀ at n d₀ first e₀ out d e = d
 
 unit-requires : tie.Need-unit-requires Inv-loop μ-loop
-unit-requires c κs =
-    let at-entry = c .before in
-    omega (arith, at-entry .pre)
+unit-requires c κs = omega arith
 
 digit-requires : tie.Need-digit-requires Inv-loop μ-loop
 digit-requires c κs = power-positive (c .unit .ensures .power)
 
 put-byte-requires : tie.Need-put-byte-requires Inv-loop μ-loop
-put-byte-requires c κs =
-    let at-entry = c .before .before .before .before in
-    omega (arith, at-entry .pre)
+put-byte-requires c κs = omega arith
 
 loop-holds : tie.Need-loop-holds Inv-loop μ-loop
 loop-holds c =
@@ -55,9 +50,7 @@ put-byte-requires-2 c κs =
     )
 
 loop-less : tie.Need-loop-less Inv-loop μ-loop
-loop-less c =
-    let at-loop-test = c .before .before .before .before .before in
-    omega (arith, at-loop-test .loop-test .taken)
+loop-less c = omega arith
 
 loop-again : tie.Need-loop-again Inv-loop μ-loop
 loop-again c =
@@ -70,10 +63,7 @@ loop-again c =
     (at-digit2 .digit2 .ensures) (at-put-byte2 .put-byte2 .ensures)
 
 same-length : tie.Need-same-length Inv-loop μ-loop
-same-length c =
-    let at-loop = c .before in
-    let at-put-byte = at-loop .before .before .before in
-    at-loop .loop .inv .text .long ∙ at-put-byte .put-byte .ensures .long
+same-length c = omega arith
 
 returns : tie.Need-returns Inv-loop μ-loop
 returns c =

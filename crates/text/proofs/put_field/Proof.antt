@@ -6,9 +6,7 @@ use Rattle.text.proofs.put_field.Statement.{statement}
 use Rattle.text.proofs.put_field.Tie as tie
 
 put-decimal-requires : tie.Need-put-decimal-requires
-put-decimal-requires c κs =
-    let at-entry = c .before .before in
-    (omega (arith, at-entry .pre), at-entry .pre .1)
+put-decimal-requires c κs = omega arith
 
 put-byte-requires : tie.Need-put-byte-requires
 put-byte-requires c κs =
@@ -23,10 +21,7 @@ put-byte-requires c κs =
     )
 
 same-length : tie.Need-same-length
-same-length c =
-    let at-put-byte = c .before .before in
-    let at-put-decimal = at-put-byte .before .before .before .before in
-    appended-on (at-put-decimal .put-decimal .ensures) (at-put-byte .put-byte .ensures) .long
+same-length c = omega arith
 
 returns : tie.Need-returns
 unfolding field

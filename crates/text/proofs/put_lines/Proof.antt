@@ -17,27 +17,16 @@ loop-holds : tie.Need-loop-holds Inv-loop μ-loop
 loop-holds c = listing-start _ _ _ _
 
 get-requires : tie.Need-get-requires Inv-loop μ-loop
-get-requires c κs =
-    let at-loop-test = c .before in
-    omega (arith, at-loop-test .loop-test .taken)
+get-requires c κs = omega arith
 
 get-requires-2 : tie.Need-get-requires-2 Inv-loop μ-loop
-get-requires-2 c κs =
-    let at-loop-test = c .before .before in
-    let at-entry = at-loop-test .before .before .before .before .before .before .before in
-    omega (arith, at-loop-test .loop-test .taken, at-entry .pre .steep-y)
+get-requires-2 c κs = omega arith
 
 get-requires-3 : tie.Need-get-requires-3 Inv-loop μ-loop
-get-requires-3 c κs =
-    let at-loop-test = c .before .before .before in
-    let at-entry = at-loop-test .before .before .before .before .before .before .before in
-    omega (arith, at-loop-test .loop-test .taken, at-entry .pre .balanced-x)
+get-requires-3 c κs = omega arith
 
 get-requires-4 : tie.Need-get-requires-4 Inv-loop μ-loop
-get-requires-4 c κs =
-    let at-loop-test = c .before .before .before .before in
-    let at-entry = at-loop-test .before .before .before .before .before .before .before in
-    omega (arith, at-loop-test .loop-test .taken, at-entry .pre .balanced-y)
+get-requires-4 c κs = omega arith
 
 put-line-requires : tie.Need-put-line-requires Inv-loop μ-loop
 put-line-requires c κs =
@@ -75,9 +64,7 @@ loop-again c =
     (at-get4 .get4 .ensures .0) (at-put-line .put-line .ensures)
 
 same-length : tie.Need-same-length Inv-loop μ-loop
-same-length c =
-    let at-loop = c .before in
-    at-loop .loop .inv .text .long
+same-length c = omega arith
 
 returns : tie.Need-returns Inv-loop μ-loop
 returns c =

@@ -20,17 +20,7 @@ shared-slice-read-put-byte : tie.Need-shared-slice-read-put-byte Inv-loop μ-loo
 shared-slice-read-put-byte c = omega arith
 
 put-byte-requires : tie.Need-put-byte-requires Inv-loop μ-loop
-put-byte-requires c κs =
-    let at-loop-test = c .before .before in
-    let at-loop = at-loop-test .before in
-    let at-entry = at-loop .before .before .before in
-    omega (
-      arith,
-      at-entry .pre,
-      at-loop .loop .inv .ends,
-      at-loop .loop .inv .text .long,
-      at-loop-test .loop-test .taken,
-    )
+put-byte-requires c κs = omega arith
 
 add-i : tie.Need-add-i Inv-loop μ-loop
 add-i c = omega arith
@@ -46,9 +36,7 @@ loop-again c =
     copying-step (at-loop .loop .inv) (at-loop-test .loop-test .taken) refl (at-put-byte .put-byte .ensures)
 
 same-length : tie.Need-same-length Inv-loop μ-loop
-same-length c =
-    let at-loop = c .before in
-    at-loop .loop .inv .text .long
+same-length c = omega arith
 
 returns : tie.Need-returns Inv-loop μ-loop
 returns c =

@@ -21,9 +21,7 @@ mul-loop c =
     omega (arith, at-entry .pre, climbing-low (c .loop .inv))
 
 mul-d : tie.Need-mul-d Inv-loop μ-loop
-mul-d c =
-    let at-entry = c .before .before in
-    omega (arith, at-entry .pre)
+mul-d c = omega arith
 
 loop-less : tie.Need-loop-less Inv-loop μ-loop
 loop-less c =

@@ -21,20 +21,13 @@ mul-word : tie.Need-mul-word Inv-loop μ-loop
 mul-word c = omega arith
 
 add-word : tie.Need-add-word Inv-loop μ-loop
-add-word c =
-    let at-entry = c .before .before .before .before in
-    omega (arith, at-entry .pre)
+add-word c = omega arith
 
 word-requires : tie.Need-word-requires Inv-loop μ-loop
-word-requires c κs =
-    let at-entry = c .before .before .before .before in
-    omega (arith, at-entry .pre .0)
+word-requires c κs = omega arith
 
 put-requires : tie.Need-put-requires Inv-loop μ-loop
-put-requires c κs =
-    let at-word = c .before in
-    let at-loop = at-word .before .before in
-    (omega (arith, at-loop .loop .inv .kept .long), at-word .word .ensures .1)
+put-requires c κs = omega arith
 
 add-v : tie.Need-add-v Inv-loop μ-loop
 add-v c = omega arith
@@ -52,9 +45,7 @@ loop-again c =
     (at-put .put .ensures ∙ ap (λ (k : ℕ). set (at-loop .loop .list) k (at-word .word .result)) (omega arith))
 
 same-length : tie.Need-same-length Inv-loop μ-loop
-same-length c =
-    let at-loop = c .before in
-    at-loop .loop .inv .kept .long
+same-length c = omega arith
 
 returns : tie.Need-returns Inv-loop μ-loop
 unfolding words

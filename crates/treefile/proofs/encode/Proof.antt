@@ -19,20 +19,13 @@ get-requires : tie.Need-get-requires Inv-loop μ-loop
 get-requires c κs = omega arith
 
 mul-put-word : tie.Need-mul-put-word Inv-loop μ-loop
-mul-put-word c =
-    let at-entry = c .before .before .before .before .before .before in
-    omega (arith, at-entry .pre)
+mul-put-word c = omega arith
 
 add-put-word : tie.Need-add-put-word Inv-loop μ-loop
-add-put-word c =
-    let at-entry = c .before .before .before .before .before .before in
-    omega (arith, at-entry .pre)
+add-put-word c = omega arith
 
 put-word-requires : tie.Need-put-word-requires Inv-loop μ-loop
-put-word-requires c κs =
-    let at-loop = c .before .before .before in
-    let at-entry = at-loop .before .before .before in
-    omega (arith, at-loop .loop .inv .kept .long, at-entry .pre)
+put-word-requires c κs = omega arith
 
 add-v : tie.Need-add-v Inv-loop μ-loop
 add-v c = omega arith
@@ -50,9 +43,7 @@ loop-again c =
     (at-put-word .put-word .ensures)
 
 same-length : tie.Need-same-length Inv-loop μ-loop
-same-length c =
-    let at-loop = c .before in
-    at-loop .loop .inv .kept .long
+same-length c = omega arith
 
 returns : tie.Need-returns Inv-loop μ-loop
 returns c =

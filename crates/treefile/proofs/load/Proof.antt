@@ -36,12 +36,7 @@ enum-told : tie.Need-enum-told
 enum-told c = search needs
 
 cast-t32 : tie.Need-cast-t32
-cast-t32 c =
-    let at-entry =
-    c .before .before .before .before .before .before .before .before .before .before .before .before .before .before
-    .before .before .before .before .before .before .before .before .before .before .before .before .before
-    .before .before .before in
-    omega (arith, at-entry .pre .small)
+cast-t32 c = omega arith
 
 enum-known-k : tie.Need-enum-known-k
 enum-known-k c = search needs

@@ -17,20 +17,13 @@ loop-holds : tie.Need-loop-holds Inv-loop μ-loop
 loop-holds c = filled-start _ 0 _ _
 
 add-get : tie.Need-add-get Inv-loop μ-loop
-add-get c =
-    let at-entry = c .before .before .before .before in
-    omega (arith, at-entry .pre)
+add-get c = omega arith
 
 get-requires : tie.Need-get-requires Inv-loop μ-loop
-get-requires c κs =
-    let at-entry = c .before .before .before .before in
-    omega (arith, at-entry .pre)
+get-requires c κs = omega arith
 
 put-requires : tie.Need-put-requires Inv-loop μ-loop
-put-requires c κs =
-    let at-get = c .before in
-    let at-loop = at-get .before .before in
-    (omega (arith, at-loop .loop .inv .kept .long), at-get .get .ensures .1)
+put-requires c κs = omega arith
 
 add-i : tie.Need-add-i Inv-loop μ-loop
 add-i c = omega arith
@@ -48,9 +41,7 @@ loop-again c =
     (at-put .put .ensures ∙ ap (λ (k : ℕ). set (at-loop .loop .list) k (at-get .get .result)) (omega arith))
 
 same-length : tie.Need-same-length Inv-loop μ-loop
-same-length c =
-    let at-loop = c .before in
-    at-loop .loop .inv .kept .long
+same-length c = omega arith
 
 returns : tie.Need-returns Inv-loop μ-loop
 returns c =

@@ -19,16 +19,10 @@ get-requires : tie.Need-get-requires Inv-loop μ-loop
 get-requires c κs = omega arith
 
 add-put : tie.Need-add-put Inv-loop μ-loop
-add-put c =
-    let at-entry = c .before .before .before .before .before .before in
-    omega (arith, at-entry .pre)
+add-put c = omega arith
 
 put-requires : tie.Need-put-requires Inv-loop μ-loop
-put-requires c κs =
-    let at-get = c .before in
-    let at-loop = at-get .before .before in
-    let at-entry = at-loop .before .before .before in
-    (omega (arith, at-loop .loop .inv .kept .long, at-entry .pre), at-get .get .ensures .1)
+put-requires c κs = omega arith
 
 add-i : tie.Need-add-i Inv-loop μ-loop
 add-i c = omega arith
@@ -47,9 +41,7 @@ loop-again c =
     (at-put .put .ensures)
 
 same-length : tie.Need-same-length Inv-loop μ-loop
-same-length c =
-    let at-loop = c .before in
-    at-loop .loop .inv .kept .long
+same-length c = omega arith
 
 returns : tie.Need-returns Inv-loop μ-loop
 returns c =

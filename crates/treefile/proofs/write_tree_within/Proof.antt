@@ -30,10 +30,7 @@ put-word-requires : tie.Need-put-word-requires
 put-word-requires c κs = search needs
 
 encode-requires : tie.Need-encode-requires
-encode-requires c κs =
-    let at-put-word = c .before .before .before in
-    let at-if1 = at-put-word .before .before in
-    omega (arith, at-if1 .if1 .left, at-put-word .put-word .ensures .kept .long)
+encode-requires c κs = omega arith
 
 mul-encode : tie.Need-mul-encode
 mul-encode c = search needs

@@ -31,19 +31,13 @@ mul-lot : tie.Need-mul-lot Inv-loop μ-loop
 mul-lot c = omega arith
 
 shared-slice-read-lot : tie.Need-shared-slice-read-lot Inv-loop μ-loop
-shared-slice-read-lot c =
-    let at-entry =
-    c .before .before .before .before .before .before .before .before .before .before .before .before .before in
-    omega (arith, at-entry .pre .0)
+shared-slice-read-lot c = omega arith
 
 mul-count : tie.Need-mul-count Inv-loop μ-loop
 mul-count c = omega arith
 
 shared-slice-read-count : tie.Need-shared-slice-read-count Inv-loop μ-loop
-shared-slice-read-count c =
-    let at-entry =
-    c .before .before .before .before .before .before .before .before .before .before .before .before .before .before in
-    omega (arith, at-entry .pre .1)
+shared-slice-read-count c = omega arith
 
 make-call-requires : tie.Need-make-call-requires Inv-loop μ-loop
 make-call-requires c κs = search needs
@@ -77,24 +71,16 @@ loop-again c =
     )
 
 same-length : tie.Need-same-length Inv-loop μ-loop
-same-length c =
-    let at-loop = c .before in
-    at-loop .loop .inv .1
+same-length c = omega arith
 
 same-length-2 : tie.Need-same-length-2 Inv-loop μ-loop
-same-length-2 c =
-    let at-loop = c .before in
-    at-loop .loop .inv .2
+same-length-2 c = omega arith
 
 same-length-3 : tie.Need-same-length-3 Inv-loop μ-loop
-same-length-3 c =
-    let at-loop = c .before in
-    at-loop .loop .inv .3
+same-length-3 c = omega arith
 
 same-length-4 : tie.Need-same-length-4 Inv-loop μ-loop
-same-length-4 c =
-    let at-loop = c .before in
-    at-loop .loop .inv .4
+same-length-4 c = omega arith
 
 returns : tie.Need-returns Inv-loop μ-loop
 returns c =
