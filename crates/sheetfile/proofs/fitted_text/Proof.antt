@@ -7,6 +7,30 @@ use borrow.Author.Needs.{needs}
 use Rattle.sheetfile.proofs.fitted_text.Statement.{statement}
 use Rattle.sheetfile.proofs.fitted_text.Tie as tie
 
+------------------------------------------------------------------------
+-- The places that facts are taken from, each from a later one
+
+abbrev started : tie.After-sheet-limits → tie.Start
+started c = c .before .before .before .before .before .before .before .before .before .before .before
+
+abbrev limited : tie.After-read-tree-within → tie.After-sheet-limits
+limited c = c .before .before .before .before
+
+abbrev read : tie.After-enum-told → tie.After-read-tree-within
+read c = c .before .before .before .before .before .before .before .before
+
+abbrev told : tie.After-layout → tie.After-enum-told
+told c = c .before .before .before .before .before .before .before
+
+abbrev laid : tie.After-layout2 → tie.After-layout
+laid c = c .before .before .before .before .before .before .before .before .before .before .before .before .before .before .before
+
+abbrev laid-twice : tie.After-put-sheet → tie.After-layout2
+laid-twice c = c .before .before .before .before .before .before .before .before .before .before .before .before .before .before
+
+------------------------------------------------------------------------
+-- Needs
+
 sheet-limits-requires : tie.Need-sheet-limits-requires
 sheet-limits-requires c κs = search needs
 
@@ -30,28 +54,20 @@ layout-requires-2 c κs = search needs
 
 put-sheet-requires : tie.Need-put-sheet-requires
 put-sheet-requires c κs =
-    let at-layout2 =
-    c .before .before .before .before .before .before .before .before .before .before .before .before .before in
-    let at-layout =
-    at-layout2 .before .before .before .before .before .before .before .before .before .before .before .before
-    .before .before .before in
-    let at-enum-told = at-layout .before .before .before .before .before .before .before in
-    let at-read-tree-within = at-enum-told .before .before .before .before .before .before .before .before in
-    let at-sheet-limits = at-read-tree-within .before .before .before .before in
-    let at-entry =
-    at-sheet-limits .before .before .before .before .before .before .before .before .before .before .before in
-    let read = at-read-tree-within .read-tree-within in
+    let second = c .before .before .before .before .before .before .before .before .before .before .before .before .before in
+    let first = laid second in
+    let reading = read (told first) in
+    let limits = limited reading in
+    let given = started limits .pre in
+    let work = reading .read-tree-within .kept .1 .1 .1 .1 .0 ∙ given .work in
     let table =
-    taken (at-limits (at-sheet-limits .sheet-limits .ensures) (read .ensures)) (at-entry .pre .parent)
-    (at-entry .pre .rank) (at-entry .pre .work) (at-enum-told .enum-told .given .1) in
-    let steep =
-    drawn-fresh table (at-layout .layout .ensures) (at-entry .pre .times) (at-entry .pre .steep-x)
-    (at-entry .pre .steep-y) (read .kept .1 .1 .1 .1 .0 ∙ at-entry .pre .work) in
+    taken (at-limits (limits .sheet-limits .ensures) (reading .read-tree-within .ensures)) (given .parent) (given .rank)
+    (given .work) (told first .enum-told .given .1) in
+    let steep = drawn-fresh table (first .layout .ensures) (given .times) (given .steep-x) (given .steep-y) work in
     let balanced =
-    drawn-fresh table (at-layout2 .layout2 .ensures) (at-layout .layout .kept .1 .1 .1 .0 ∙ at-entry .pre .times)
-    (at-entry .pre .balanced-x) (at-entry .pre .balanced-y)
-    (at-layout .layout .kept .1 .1 .1 .1 .1 .1 .0 ∙ read .kept .1 .1 .1 .1 .0 ∙ at-entry .pre .work) in
-    both-lines table steep balanced (at-entry .pre .room)
+    drawn-fresh table (second .layout2 .ensures) (first .layout .kept .1 .1 .1 .0 ∙ given .times) (given .balanced-x)
+    (given .balanced-y) (first .layout .kept .1 .1 .1 .1 .1 .1 .0 ∙ work) in
+    both-lines table steep balanced (given .room)
 
 same-length : tie.Need-same-length
 same-length c = search needs
@@ -67,34 +83,20 @@ same-length-4 c = search needs
 
 returns : tie.Need-returns
 returns c =
-    let at-put-refusal = c .before .before in
-    let at-number = at-put-refusal .before .before .before in
-    let at-read-tree-within = at-number .before .before .before .before .before .before .before .before in
-    let at-sheet-limits = at-read-tree-within .before .before .before .before in
-    let at-entry =
-    at-sheet-limits .before .before .before .before .before .before .before .before .before .before .before in
-    appended-is (at-put-refusal .put-refusal .ensures)
-    (sym (refused-text (at-limits (at-sheet-limits .sheet-limits .ensures)
-    (at-read-tree-within .read-tree-within .ensures)) (at-entry .pre .parent) (at-entry .pre .rank)
-    (at-entry .pre .work) (at-number .number .given .1)))
+    let written = c .before .before in
+    let refused = written .before .before .before in
+    let reading = refused .before .before .before .before .before .before .before .before in
+    let limits = limited reading in
+    let given = started limits .pre in
+    appended-is (written .put-refusal .ensures)
+    (sym (refused-text (at-limits (limits .sheet-limits .ensures) (reading .read-tree-within .ensures)) (given .parent)
+    (given .rank) (given .work) (refused .number .given .1)))
 
 same-length-5 : tie.Need-same-length-5
-same-length-5 c =
-    let at-read-tree-within =
-    c .before .before .before .before .before .before .before .before .before .before .before .before .before
-    .before .before .before .before .before .before .before .before .before .before .before .before .before
-    .before .before .before .before .before .before .before .before .before .before .before .before
-    .before .before .before .before .before .before .before .before in
-    at-read-tree-within .read-tree-within .kept .1 .1 .0
+same-length-5 c = read (told (laid (laid-twice (c .before .before)))) .read-tree-within .kept .1 .1 .0
 
 same-length-6 : tie.Need-same-length-6
-same-length-6 c =
-    let at-read-tree-within =
-    c .before .before .before .before .before .before .before .before .before .before .before .before .before
-    .before .before .before .before .before .before .before .before .before .before .before .before .before
-    .before .before .before .before .before .before .before .before .before .before .before .before
-    .before .before .before .before .before .before .before .before in
-    at-read-tree-within .read-tree-within .kept .1 .1 .1 .0
+same-length-6 c = read (told (laid (laid-twice (c .before .before)))) .read-tree-within .kept .1 .1 .1 .0
 
 same-length-7 : tie.Need-same-length-7
 same-length-7 c = search needs
@@ -113,47 +115,31 @@ same-length-11 c = search needs
 
 same-length-12 : tie.Need-same-length-12
 same-length-12 c =
-    let at-layout2 =
-    c .before .before .before .before .before .before .before .before .before .before .before .before .before
-    .before .before .before in
-    let at-layout =
-    at-layout2 .before .before .before .before .before .before .before .before .before .before .before .before
-    .before .before .before in
-    let at-read-tree-within =
-    at-layout .before .before .before .before .before .before .before .before .before .before .before .before
-    .before .before .before in
-    at-layout2 .layout2 .kept .1 .1 .1 .1 .1 .1 .0 ∙ at-layout .layout .kept .1 .1 .1 .1 .1 .1 .0
-    ∙ at-read-tree-within .read-tree-within .kept .1 .1 .1 .1 .0
+    let second = laid-twice (c .before .before) in
+    let first = laid second in
+    second .layout2 .kept .1 .1 .1 .1 .1 .1 .0 ∙ first .layout .kept .1 .1 .1 .1 .1 .1 .0
+    ∙ read (told first) .read-tree-within .kept .1 .1 .1 .1 .0
 
 same-length-13 : tie.Need-same-length-13
 same-length-13 c = search needs
 
 returns-2 : tie.Need-returns-2
 returns-2 c =
-    let at-put-sheet = c .before .before in
-    let at-layout2 =
-    at-put-sheet .before .before .before .before .before .before .before .before .before .before .before .before
-    .before .before in
-    let at-layout =
-    at-layout2 .before .before .before .before .before .before .before .before .before .before .before .before
-    .before .before .before in
-    let at-enum-told = at-layout .before .before .before .before .before .before .before in
-    let at-read-tree-within = at-enum-told .before .before .before .before .before .before .before .before in
-    let at-sheet-limits = at-read-tree-within .before .before .before .before in
-    let at-entry =
-    at-sheet-limits .before .before .before .before .before .before .before .before .before .before .before in
-    let read = at-read-tree-within .read-tree-within in
+    let written = c .before .before in
+    let second = laid-twice written in
+    let first = laid second in
+    let reading = read (told first) in
+    let limits = limited reading in
+    let given = started limits .pre in
+    let work = reading .read-tree-within .kept .1 .1 .1 .1 .0 ∙ given .work in
     let table =
-    taken (at-limits (at-sheet-limits .sheet-limits .ensures) (read .ensures)) (at-entry .pre .parent)
-    (at-entry .pre .rank) (at-entry .pre .work) (at-enum-told .enum-told .given .1) in
-    let steep =
-    drawn-fresh table (at-layout .layout .ensures) (at-entry .pre .times) (at-entry .pre .steep-x)
-    (at-entry .pre .steep-y) (read .kept .1 .1 .1 .1 .0 ∙ at-entry .pre .work) in
+    taken (at-limits (limits .sheet-limits .ensures) (reading .read-tree-within .ensures)) (given .parent) (given .rank)
+    (given .work) (told first .enum-told .given .1) in
+    let steep = drawn-fresh table (first .layout .ensures) (given .times) (given .steep-x) (given .steep-y) work in
     let balanced =
-    drawn-fresh table (at-layout2 .layout2 .ensures) (at-layout .layout .kept .1 .1 .1 .0 ∙ at-entry .pre .times)
-    (at-entry .pre .balanced-x) (at-entry .pre .balanced-y)
-    (at-layout .layout .kept .1 .1 .1 .1 .1 .1 .0 ∙ read .kept .1 .1 .1 .1 .0 ∙ at-entry .pre .work) in
-    both-shown table steep balanced (at-put-sheet .put-sheet .ensures)
+    drawn-fresh table (second .layout2 .ensures) (first .layout .kept .1 .1 .1 .0 ∙ given .times) (given .balanced-x)
+    (given .balanced-y) (first .layout .kept .1 .1 .1 .1 .1 .1 .0 ∙ work) in
+    both-shown table steep balanced (written .put-sheet .ensures)
 
 pub fitted-text-spec : {M : Type 1} → statement M
 fitted-text-spec =
