@@ -25,7 +25,7 @@ module _ {P R W : List ℕ} (ordered : Ordered P R W) {u v : ℕ} (apart : Apart
     at = climb-zero P u;
     below =
         let some = rise-some (ordered .tree) u v (apart .pair .first) (apart .pair .second) (apart .not-over) in
-        omega (arith, some .1);
+        omega arith;
   }
 
   module _ {z : ℕ} (a : Ascending P u v z) where

@@ -22,7 +22,7 @@ module _ {P R W : List ℕ} (ordered : Ordered P R W) {z : ℕ} (node : 0 < z) (
   number-asks = (
     omega (arith, number-is, numbering (ordered .tree) .from-1 z inside),
     omega (arith, number-is, number-below-n (ordered .tree) (numbering (ordered .tree)) z node inside),
-    omega (arith, ordered .few),
+    omega arith,
   )
 
   pub slope-read : (rule : Rule) {s : Slope} → s ≡ slopeAt rule (length P) k → (s ≡ edge P R rule z) × Small s
@@ -30,5 +30,5 @@ module _ {P R W : List ℕ} (ordered : Ordered P R W) {z : ℕ} (node : 0 < z) (
   slope-read rule {s} e =
       let size = slope-size rule (length P) k (number-asks .0) (number-asks .1) in (
         e ∙ ap (slopeAt rule (length P)) number-is,
-        subst⁻¹ Small e (record { across = omega (arith, ordered .few); up = omega (arith, ordered .few) }),
+        subst⁻¹ Small e (record { across = omega arith; up = omega arith }),
       )

@@ -39,8 +39,8 @@ module _ {P R W : List ℕ} (ordered : Ordered P R W) where
   edge-up {u} {v} {p} pair f at =
       let some = rise-some (ordered .tree) u v (pair .first) (pair .second) f in
       let way = rise-way (ordered .tree) u v in (
-        subst (λ (z : ℕ). 0 < z) (climb-zero P u) (way 0 (pair .second) (omega (arith, some .1))),
-        subst⁻¹ (λ (z : ℕ). 0 < z) at (way (rise P u v - 1) (pair .second) (omega (arith, some .1))),
+        subst (λ (z : ℕ). 0 < z) (climb-zero P u) (way 0 (pair .second) (omega arith)),
+        subst⁻¹ (λ (z : ℕ). 0 < z) at (way (rise P u v - 1) (pair .second) (omega arith)),
         subst⁻¹ (λ (z : ℕ). z < length P) at (climb-inside P (ordered .tree .inside) (rise P u v - 1) u (pair .first)),
       )
 
@@ -76,6 +76,6 @@ module _ {P R W : List ℕ} (ordered : Ordered P R W) where
         heading-side s er =
             let down = rise-some (ordered .tree) v u (pair .second) (pair .first) (sym below-is ∙ not-below) in
             let steps-p : rise P u v - 1 ≡ up .0 = omega (arith, up .1) in
-            let steps-q : rise P v u - 1 ≡ down .0 = omega (arith, down .1) in
+            let steps-q : rise P v u - 1 ≡ down .0 = omega arith in
             rw (up .1, down .1) (er ∙ ap₂ (λ (p q : ℕ). sideways R s u v p q)
             (at-p ∙ ap (λ (k : ℕ). climb P k u) steps-p) (at-q ∙ ap (λ (k : ℕ). climb P k v) steps-q))

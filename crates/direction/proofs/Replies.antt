@@ -80,7 +80,7 @@ module _ (P R : List ℕ) (rule : Rule) (u v : ℕ) {L : Limits} (is-large : L �
         let accepted = accepting large P R true (length W) no-fault in (
           record {
             tree = accepted .tree;
-            few = omega (arith, accepted .shape .few);
+            few = omega arith;
             long = validated .kept .long ∙ accepted .shape .work-long;
             started = validated .started e;
           },

@@ -41,7 +41,7 @@ module _ {P R W : List ℕ} (t : NumberedTree P R W) {v : ℕ} (above : 0 < v) (
       let is = t .numbers .last v inside in (
         omega (arith, n .from-1 v inside),
         omega (arith, n .parent-later v above inside, n .to-n (parent P v) (t .tree .inside v inside)),
-        omega (arith, t .few),
+        omega arith,
       )
 
   pub edge-slope : (rule : Rule) {j : ℕ} {slope : Slope} → j ≡ getD W v 0 → slope ≡ slopeAt rule (length P) j

@@ -37,7 +37,7 @@ module _ {P R : List ℕ} (tree : Tree P R) where
     want = f .want;
     long = ap length q ∙ length-set X v a ∙ f .long;
     at = λ z h b. ap (λ (L : List ℕ). getD L z 0) q
-        ∙ read-set X v z a (getD F z 0) (omega (arith, f .long))
+        ∙ read-set X v z a (getD F z 0) (omega arith)
         (λ s. is ∙ ap (λ k. getD F k 0) (sym s))
         (λ ne. f .at z h (above z h b ne));
   }
@@ -50,7 +50,7 @@ module _ {P R : List ℕ} (tree : Tree P R) where
   filled-all : {F X : List ℕ} → Filled P R F X 0 → X ≡ F
   filled-all {F} {X} f =
       ext-getD 0 X F (f .long ∙ sym (f .want))
-      (λ i h. f .at i (omega (arith, f .long)) (numbering tree .from-1 i (omega (arith, f .long))))
+      (λ i h. f .at i (omega arith) (numbering tree .from-1 i (omega arith)))
 
 ------------------------------------------------------------------------
 -- The node with number j
@@ -76,7 +76,7 @@ unfolding edge
 hung {P} {R} {rule} tree {v = v} {slope = slope} part {F} {X} n f c ep es =
     let up = c .adds .at v (n .above) (n .inside) in
     let later = numbering tree .parent-later v (n .above) (n .inside) in
-    let there = f .at (parent P v) (tree .inside v (n .inside)) (omega (arith, n .number)) in
+    let there = f .at (parent P v) (tree .inside v (n .inside)) (omega arith) in
     let step : getD (fresh P R rule .times) v 0 * part (slopeAt rule (length P) (postNumber P R v)) ≡ part slope =
     ap₂ (λ k i. k * part (slopeAt rule (length P) i)) (fresh-once tree rule v (n .inside)) (n .number)
     ∙ omega (arith, ap part es) in
@@ -120,8 +120,8 @@ module _ {P R : List ℕ} {rule : Rule} {W T X Y : List ℕ} {j v : ℕ} (l : La
       let there = number-at tree (j - 1) (omega arith) in
       let is : v ≡ getD (order P R) (j - 1) 0 =
       at ∙ ap (λ k. getD W k 0) (omega arith) ∙ l .numbered .numbers .node (j - 1) (omega arith) in
-      let number : postNumber P R v ≡ j = ap (postNumber P R) is ∙ omega (arith, there .1) in
-      let inside : v < length P = omega (arith, there .0) in
+      let number : postNumber P R v ≡ j = ap (postNumber P R) is ∙ omega arith in
+      let inside : v < length P = omega arith in
       let not-root : v ≡ 0 → ⊥ = λ z. omega (arith, ap (postNumber P R) z, root-last tree) in
       record { above = omega arith; inside = inside; number = number }
 
@@ -129,14 +129,14 @@ module _ {P R : List ℕ} {rule : Rule} {W T X Y : List ℕ} {j v : ℕ} (l : La
     pub laying-x : (p < length X) × (v < length X) × (getD X p 0 + slope .across < 2 ^ 32)
     laying-x = let n = laying-node in (
       omega (arith, l .x .long, tree .inside v (n .inside)),
-      omega (arith, l .x .long, n .inside),
+      omega arith,
       omega (arith, hung tree acrossOf n (l .x) (l .goal .x) up is, l .goal .x .within v (n .inside)),
     )
 
     pub laying-y : (p < length Y) × (v < length Y) × (getD Y p 0 + slope .up < 2 ^ 32)
     laying-y = let n = laying-node in (
       omega (arith, l .y .long, tree .inside v (n .inside)),
-      omega (arith, l .y .long, n .inside),
+      omega arith,
       omega (arith, hung tree upOf n (l .y) (l .goal .y) up is, l .goal .y .within v (n .inside)),
     )
 
@@ -145,7 +145,7 @@ module _ {P R : List ℕ} {rule : Rule} {W T X Y : List ℕ} {j v : ℕ} (l : La
     laying-step p q r = let n = laying-node in record {
       numbered = l .numbered;
       goal = l .goal;
-      low = omega (arith, l .low);
+      low = omega arith;
       times = filled-set tree (l .times) v 1 (n .inside) (n .number) (sym (fresh-once tree rule v (n .inside))) p;
       x = filled-set tree (l .x) v _ (n .inside) (n .number) (hung tree acrossOf n (l .x) (l .goal .x) up is) q;
       y = filled-set tree (l .y) v _ (n .inside) (n .number) (hung tree upOf n (l .y) (l .goal .y) up is) r;

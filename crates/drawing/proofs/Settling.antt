@@ -55,7 +55,7 @@ module _ (L : Limits) (P R : List ℕ) (s : Drawing) {long : Bool} {W X : List �
       let a = accepting L P R _ (length W) (none-left e) in
       record {
         tree = a .tree;
-        few = omega (arith, a .shape .few);
+        few = omega arith;
         long = v .kept .long ∙ a .shape .work-long;
         started = v .started e;
       }

@@ -59,7 +59,7 @@ module _ {P R W : List ℕ} {v last j : ℕ} (k : Walk P R W v last j) where
   walk-step h = record {
     numbered = k .numbered;
     inside = k .inside;
-    low = omega (arith, k .low);
+    low = omega arith;
     end = k .end;
     most = k .most;
   }
@@ -71,12 +71,12 @@ module _ {P R W : List ℕ} {v last j : ℕ} (k : Walk P R W v last j) where
       let most = k .most in
       let at = number-at (t .tree) j (omega arith) in
       let node : z ≡ getD (order P R) j 0 = is ∙ t .numbers .node j (omega arith) in
-      let inside : z < length P = omega (arith, at .0) in
+      let inside : z < length P = omega arith in
       let number : postNumber P R z ≡ j + 1 = ap (postNumber P R) node ∙ at .1 in
       record {
         inside = inside;
         number = number;
-        under-v = in-subtree (t .tree) v z (k .inside) inside .1 (omega (arith, k .low), omega (arith, k .end));
+        under-v = in-subtree (t .tree) v z (k .inside) inside .1 (omega arith, omega arith);
       }
 
   -- only that node has its number
@@ -159,7 +159,7 @@ movable-fits {longer = false} m z a l u e h = omega arith
 module _ {P R W X : List ℕ} {v d : ℕ} {longer : Bool} {Y : List ℕ} {last j : ℕ}
     (m : Moving P R W X v d longer Y last j) where
   moving-here : {z a : ℕ} → Visit P R v j z → a ≡ getD Y z 0 → a ≡ getD X z 0
-  moving-here {z} x e = e ∙ m .after z (x .inside) (λ u. omega (arith, x .number))
+  moving-here {z} x e = e ∙ m .after z (x .inside) (λ u. omega arith)
 
   -- the sum or difference is one of 64 bits, and the place one of 32
   pub moving-can : {z a : ℕ} → Visit P R v j z → a ≡ getD Y z 0
@@ -181,11 +181,11 @@ module _ {P R W X : List ℕ} {v d : ℕ} {longer : Bool} {Y : List ℕ} {last j
     can = m .can;
     long = ap length q ∙ length-set Y z b ∙ m .long;
     before = λ w lw u g. ap (λ (l : List ℕ). getD l w 0) q
-        ∙ read-set Y z w b (by longer (getD X w 0) d) (omega (arith, m .long, x .inside))
+        ∙ read-set Y z w b (by longer (getD X w 0) d) (omega arith)
         (λ s. is ∙ ap (λ k. by longer k d) (moving-here x e ∙ ap (λ k. getD X k 0) (sym s)))
         (λ ne. let off : postNumber P R w ≡ j + 1 → ⊥ = other (m .walk) x w lw ne in m .before w lw u (omega arith));
     after = λ w lw u. ap (λ (l : List ℕ). getD l w 0) q
-        ∙ read-set Y z w b (getD X w 0) (omega (arith, m .long, x .inside))
+        ∙ read-set Y z w b (getD X w 0) (omega arith)
         (λ s. absurd (omega (
           arith,
           x .number,
@@ -198,7 +198,7 @@ module _ {P R W X : List ℕ} {v d : ℕ} {longer : Bool} {Y : List ℕ} {last j
   pub moving-end : last ≤ j → Y ≡ moved P (λ a. by longer a d) v X
   moving-end h =
       ext-getD 0 Y (moved P (λ a. by longer a d) v X) (m .long ∙ sym (moved-long P (λ a. by longer a d) v X))
-      (λ i l. let li : i < length P = omega (arith, m .long) in
+      (λ i l. let li : i < length P = omega arith in
       by-test (under P v i)
       (λ u. m .before i li u (omega (arith, last-under (m .walk) i li u))
       ∙ sym (moved-in P (λ a. by longer a d) v X i li u))

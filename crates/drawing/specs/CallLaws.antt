@@ -100,7 +100,7 @@ examined-again {L} {P} {R} {rule} {s} {work} {v} x {t} d =
     (λ l. absurd (omega arith)))
     (omega arith))
     ∙ orElse-second _ _ (refuse-no _ 9 0 (lt-leb (length P) v (x .inside)))
-    ∙ refuse-no _ 10 0 (ne-eqb v 0 (λ e. omega (arith, x .above)))
+    ∙ refuse-no _ 10 0 (ne-eqb v 0 (λ e. omega arith))
 
 module _ (limit n : ℕ) (t : Drawing) where
   abbrev far : ℕ → Bool

@@ -91,7 +91,7 @@ module _ (limit : ℕ) (P R : List ℕ) (rule : Rule) where
         by-eq v 0
         (λ e. subst⁻¹ (λ z. placed limit P R rule times part X z ≡ true) e
         (placed-root ∙ both-is (eq-eqb (getD X 0 0) 0 (c .adds .root))
-        (le-leb (getD X 0 0) limit (omega (arith, c .adds .root)))))
+        (le-leb (getD X 0 0) limit (omega arith))))
         (λ ne.
         let a : 0 < v = omega arith in
         placed-node v a
@@ -200,6 +200,6 @@ largest-found (a ∷ l) =
     by-lt a (largest l)
     (λ h. ⊎-elim (λ e. inl (omega arith))
     (λ (f : (k : ℕ) × (k < length l) × (getD l k 0 ≡ largest l)).
-    inr (suc (f .0), omega (arith, f .1), omega (arith, f .2)))
+    inr (suc (f .0), omega arith, omega arith))
     (largest-found l))
     (λ h. inr (0, omega arith, omega arith))

@@ -132,12 +132,12 @@ module _ {P : List ℕ} {v d : ℕ} where
   pub moved-one : {X Y Z : List ℕ} → Moved P v d X Y → Moved P v d X Z → Y ≡ Z
   moved-one {X} {Y} {Z} m w =
       ext-getD 0 Y Z (m .to-long ∙ sym (w .to-long))
-      (λ i h. m .at i (omega (arith, m .to-long)) ∙ sym (w .at i (omega (arith, m .to-long))))
+      (λ i h. m .at i (omega arith) ∙ sym (w .at i (omega arith)))
 
   pub unmoved-one : {X Y Z : List ℕ} → Moved P v d X Z → Moved P v d Y Z → X ≡ Y
   unmoved-one {X} {Y} {Z} m w =
       ext-getD 0 X Y (m .from-long ∙ sym (w .from-long))
-      (λ i h. omega (arith, m .at i (omega (arith, m .from-long)), w .at i (omega (arith, m .from-long))))
+      (λ i h. omega (arith, m .at i (omega arith), w .at i (omega arith)))
 
 -- the one coordinate adds up its steps exactly when the other adds up the steps with d more at v
 module _ {P R : List ℕ} (tree : Tree P R) {v d : ℕ} (av : 0 < v) (lv : v < length P) {X Y : List ℕ}
@@ -184,7 +184,7 @@ module _ {P R : List ℕ} {rule : Rule} {v c : ℕ} where
   longer-stretch {s = s} d lv = record {
     from-long = d .long;
     to-long = length-set (s .times) v (getD (s .times) v 0 + c) ∙ d .long;
-    here = getD-set-same (s .times) v (getD (s .times) v 0 + c) 0 (omega (arith, d .long));
+    here = getD-set-same (s .times) v (getD (s .times) v 0 + c) 0 (omega arith);
     other = λ z lz ne. getD-set-other (s .times) v z (getD (s .times) v 0 + c) 0 ne;
     x = moved-on P v (c * acrossOf (edge P R rule v)) (s .x) (d .x .long);
     y = moved-on P v (c * upOf (edge P R rule v)) (s .y) (d .y .long);
@@ -197,7 +197,7 @@ module _ {P R : List ℕ} {rule : Rule} {v c : ℕ} where
       (ext-getD 0 (t .times) (u .times) (a .to-long ∙ sym (b .to-long))
       (λ i h. by-eq i v
       (λ e. ap (λ z. getD (t .times) z 0) e ∙ a .here ∙ sym (b .here) ∙ ap (λ z. getD (u .times) z 0) (sym e))
-      (λ ne. a .other i (omega (arith, a .to-long)) ne ∙ sym (b .other i (omega (arith, a .to-long)) ne))))
+      (λ ne. a .other i (omega arith) ne ∙ sym (b .other i (omega arith) ne))))
       (moved-one (a .x) (b .x)) (moved-one (a .y) (b .y))
 
   pub unstretch-one : {s t u : Drawing} → v < length P → Stretch P R rule v c s u → Stretch P R rule v c t u → s ≡ t
@@ -206,7 +206,7 @@ module _ {P R : List ℕ} {rule : Rule} {v c : ℕ} where
       (ext-getD 0 (s .times) (t .times) (a .from-long ∙ sym (b .from-long))
       (λ i h. by-eq i v
       (λ e. omega (arith, ap (λ z. getD (s .times) z 0) e, ap (λ z. getD (t .times) z 0) e, a .here, b .here))
-      (λ ne. sym (a .other i (omega (arith, a .from-long)) ne) ∙ b .other i (omega (arith, a .from-long)) ne)))
+      (λ ne. sym (a .other i (omega arith) ne) ∙ b .other i (omega arith) ne)))
       (unmoved-one (a .x) (b .x)) (unmoved-one (a .y) (b .y))
 
   module _ {s t : Drawing} (m : Stretch P R rule v c s t) where
@@ -231,11 +231,11 @@ module _ {P R : List ℕ} (tree : Tree P R) {rule : Rule} {limit v c : ℕ} (av 
       → Stretch P R rule v c (shorter P R rule t v c) t
   unfolding stretched
   shorter-stretch {t} d less =
-      let same = getD-set-same (t .times) v (getD (t .times) v 0 - c) 0 (omega (arith, d .long)) in
+      let same = getD-set-same (t .times) v (getD (t .times) v 0 - c) 0 (omega arith) in
       record {
         from-long = length-set (t .times) v (getD (t .times) v 0 - c) ∙ d .long;
         to-long = d .long;
-        here = omega (arith, same);
+        here = omega arith;
         other = λ z lz ne. sym (getD-set-other (t .times) v z (getD (t .times) v 0 - c) 0 ne);
         x = moved-back P v (c * acrossOf (edge P R rule v)) (t .x) (d .x .long) (back-room (d .x) less);
         y = moved-back P v (c * upOf (edge P R rule v)) (t .y) (d .y .long) (back-room (d .y) less);

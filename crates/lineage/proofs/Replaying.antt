@@ -66,7 +66,7 @@ pub running-end : {L : Limits} {P R : List ℕ} {rule : Rule} {s : Drawing} {wor
     {i : ℕ}
     → Running L P R rule s work K N C t i → length K ≤ i → t ≡ run L P R rule s (callsTo K N C work (length K))
 running-end {L} {P} {R} {rule} {s} {work} {K} {N} {C} r h =
-    r .drawing ∙ ap (λ (z : ℕ). run L P R rule s (callsTo K N C work z)) (omega (arith, r .upto))
+    r .drawing ∙ ap (λ (z : ℕ). run L P R rule s (callsTo K N C work z)) (omega arith)
 
 module _ {L : Limits} {P R : List ℕ} {rule : Rule} {s : Drawing} {W : List ℕ} {t : Drawing} {X : List ℕ} {a : Framed}
     (l : Laid L P R rule s W t X a) (K N C : List ℕ) where

@@ -121,7 +121,7 @@ module _ {P R : List ℕ} (T : Tree P R) {u : ℕ} (l : u < length P) {W : List 
 
   -- the words are as they were
   words : (v : ℕ) → v < length P → getD B v 0 ≡ getD X v 0
-  words v b = turned .others v (λ e. omega arith) (λ e. omega (arith, inside))
+  words v b = turned .others v (λ e. omega arith) (λ e. omega arith)
 
   side-turned : (A : List ℕ) → Away P u W A → (y : ℕ) → 0 < y → y < length P → passed P u p y ≡ true
       → edgeAt (length P) B y ≡ edgeAt (length P) A y

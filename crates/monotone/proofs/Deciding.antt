@@ -96,7 +96,7 @@ module _ {P R : List ℕ} (T : Tree P R) {x y : List ℕ} {u : ℕ} (l : u < len
       closed : Holds (length P) any (edgeAt (length P) (c .turned)) (getD X v 0) (s .way) → HasHalfPlane (s .way) → ⊥
       closed (empty e n) g = omega arith
       closed (shut e f) g = f g
-      closed (wide p a b k) g = omega (arith, p .low)
+      closed (wide p a b k) g = omega arith
 
 ------------------------------------------------------------------------
 -- The pairs passed

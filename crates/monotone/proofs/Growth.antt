@@ -20,7 +20,7 @@ low-half : (a b : ℕ) → b < 65536 → (a * 65536 + b) % 65536 ≡ b
 low-half a b h = omega arith
 
 pub pair-fits : {n k : ℕ} → n ≤ 65536 → Pair n k → k < 4294967296
-pair-fits few p = omega (arith, p .low-in)
+pair-fits few p = omega arith
 
 pub pair-of : {n : ℕ} (a b : ℕ) → n ≤ 65536 → 0 < a → a < n → 0 < b → b < n → Pair n (a * 65536 + b)
 pair-of a b few p q r s = record { low = omega arith; low-in = omega arith; high = omega arith; high-in = omega arith }
@@ -29,10 +29,10 @@ pair-of a b few p q r s = record { low = omega arith; low-in = omega arith; high
 -- What a cone tells of its code
 
 not-one : {n k : ℕ} → Pair n k → k ≡ 1 → ⊥
-not-one p e = omega (arith, p .low)
+not-one p e = omega arith
 
 not-two : {n k : ℕ} → Pair n k → k ≡ 2 → ⊥
-not-two p e = omega (arith, p .low)
+not-two p e = omega arith
 
 module _ {n k : ℕ} where
   pub formed-one : k ≡ 1 → Formed n k
@@ -42,13 +42,13 @@ module _ {n k : ℕ} where
   formed-two e = record { some = λ z. omega arith; pair = λ f g. absurd (g e) }
 
   formed-pair : Pair n k → Formed n k
-  formed-pair p = record { some = λ z. omega (arith, p .low); pair = λ f g. p }
+  formed-pair p = record { some = λ z. omega arith; pair = λ f g. p }
 
 module _ {n : ℕ} {side : ℕ → Bool} {edge : ℕ → Vec} {k : ℕ} {us : List Vec} where
   pub holds-some : Holds n side edge k us → k ≡ 0 → ⊥
   holds-some (empty e _) z = omega arith
   holds-some (shut e _) z = omega arith
-  holds-some (wide p _ _ _) z = omega (arith, p .low)
+  holds-some (wide p _ _ _) z = omega arith
 
   pub holds-formed : Holds n side edge k us → Formed n k
   holds-formed (empty e _) = formed-one e
@@ -100,17 +100,17 @@ module _ {n : ℕ} {W : List ℕ} {k z : ℕ} (g : Growing n W k z) where
       (subst₂ (λ (i j : ℕ). Cone (edge i) (edge j) us) (sym low-is) (sym high-is) c)
     where
       low-is : (a * 65536 + b) / 65536 ≡ a
-      low-is = high-half a b (omega (arith, few))
+      low-is = high-half a b (omega arith)
 
       high-is : (a * 65536 + b) % 65536 ≡ b
-      high-is = low-half a b (omega (arith, few))
+      high-is = low-half a b (omega arith)
 
   pub grow-first : {r : ℕ} → k ≡ 1 → Alone z (edge z) r → Grown n edge k z r
   grow-first {r} e first = record { holds = λ side t. more side t first; formed = form first; fits = fit first }
     where
       fit : Alone z (edge z) r → r < 4294967296
       fit (none h q) = omega arith
-      fit (one h q) = omega (arith, few, inside)
+      fit (one h q) = omega arith
 
       form : Alone z (edge z) r → Formed n r
       form (none h q) = formed-two q
@@ -151,7 +151,7 @@ module _ {n : ℕ} {W : List ℕ} {k z : ℕ} (g : Growing n W k z) where
       holds = by-pair (λ side t a b us c.
           packed side (k / 65536) z (pair .low) (pair .low-in) some inside a t (edge z ∷ us) (move High e .after us c));
       formed = formed-pair (pair-of (k / 65536) z few (pair .low) (pair .low-in) some inside);
-      fits = omega (arith, pair .low-in, few, inside);
+      fits = omega arith;
     }
 
     pub grow-low : m ≡ Low → Grown n edge k z (z * 65536 + k % 65536)
@@ -160,7 +160,7 @@ module _ {n : ℕ} {W : List ℕ} {k z : ℕ} (g : Growing n W k z) where
           packed side z (k % 65536) some inside (pair .high) (pair .high-in) t b
           (edge z ∷ us) (move Low e .after us c));
       formed = formed-pair (pair-of z (k % 65536) few some inside (pair .high) (pair .high-in));
-      fits = omega (arith, few, inside);
+      fits = omega arith;
     }
 
     pub grow-never : m ≡ Never → Grown n edge k z 2

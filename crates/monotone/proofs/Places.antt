@@ -75,7 +75,7 @@ module _ {P c : List ℕ} (k : Coordinate P c) {at z : ℕ} {W X : List ℕ}
       here : getD Y (at + z) 0 + getD c (parent P z) 0 ≡ getD c z 0 + 2147483648
       here = omega (
         arith,
-        store-here X (at + z) (getD c z 0 + 2147483648 - getD c (parent P z) 0) (omega (arith, o .only .long)) q,
+        store-here X (at + z) (getD c z 0 + 2147483648 - getD c (parent P z) 0) (omega arith) q,
         k .within (parent P z) (k .inside z l),
       )
 

@@ -88,10 +88,10 @@ module _ {P R : List ℕ} (T : Tree P R) {u : ℕ} (l : u < length P) {W : List 
   node = getD X (3 * length P + (j - 1)) 0
 
   pub node-in : node < length P
-  node-in = s .order .inside (j - 1) (omega (arith, s .few))
+  node-in = s .order .inside (j - 1) (omega arith)
 
   node-number : s .order .number node ≡ j
-  node-number = s .order .place (j - 1) (omega (arith, s .few)) ∙ omega arith
+  node-number = s .order .place (j - 1) (omega arith) ∙ omega arith
 
   -- the node at this place is the only one with its number
   the-node : (v : ℕ) → v < length P → j - 1 < s .order .number v → s .order .number v ≤ j → v ≡ node
@@ -121,7 +121,7 @@ module _ {P R : List ℕ} (T : Tree P R) {u : ℕ} (l : u < length P) {W : List 
   pub spreading-step : {Y : List ℕ} → Visited P X node Y → Spreading P u (j - 1) W Y
   unfolding ordered-kept
   spreading-step {Y} (known k q) = subst⁻¹ (Spreading P u (j - 1) W) q (record {
-    few = omega (arith, s .few);
+    few = omega arith;
     order = s .order;
     row = s .row;
     done = λ v b h. by-lt j (s .order .number v) (s .done v b)
@@ -129,7 +129,7 @@ module _ {P R : List ℕ} (T : Tree P R) {u : ℕ} (l : u < length P) {W : List 
     only = s .only;
   })
   spreading-step {Y} (grown r e g q) = record {
-    few = omega (arith, s .few);
+    few = omega arith;
     order = ordered-kept (λ i h. store-else X node r q i (λ p. omega (arith, node-in))) (s .order);
     row = record {
       told = told-store node r long q next (s .row .told);

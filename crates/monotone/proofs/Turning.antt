@@ -69,7 +69,7 @@ pub record Turning (P : List ℕ) (u z : ℕ) (W X : List ℕ) : Type 0 where
 -- one store, then the other
 module _ (n z : ℕ) (some : 0 < z) (inside : z < n) {W : List ℕ} (edges : Edges n W) where
   pub edge-across : (n + z < length W) × Part (getD W (n + z) 0)
-  edge-across = (omega (arith, edges .long), edges .across z some inside)
+  edge-across = (omega arith, edges .across z some inside)
 
   module _ {X : List ℕ} (first : X ≡ set W (n + z) (4294967296 - getD W (n + z) 0)) where
     up-kept : getD X (2 * n + z) 0 ≡ getD W (2 * n + z) 0
@@ -113,11 +113,11 @@ module _ {P R : List ℕ} (T : Tree P R) {u : ℕ} (l : u < length P) {W : List 
       above = under-trans T (parent P z) z u l (under-parent T z (t .inside)) (t .above);
       across = part-step T some (t .inside) (t .above) (t .across) (record {
         here = e .across;
-        others = λ y m ne. e .others (length P + y) (λ q. ne (omega arith)) (λ q. omega (arith, t .inside));
+        others = λ y m ne. e .others (length P + y) (λ q. ne (omega arith)) (λ q. omega arith);
       });
       up = part-step T some (t .inside) (t .above) (t .up) (record {
         here = e .up;
-        others = λ y m ne. e .others (2 * length P + y) (λ q. omega (arith, t .inside)) (λ q. ne (omega arith));
+        others = λ y m ne. e .others (2 * length P + y) (λ q. omega arith) (λ q. ne (omega arith));
       });
     }
 

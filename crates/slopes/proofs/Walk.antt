@@ -26,7 +26,7 @@ walk-start k t j h e =
       within = omega arith;
       inside = omega arith;
       leads = descent-is k t j h e;
-      small = λ f part. let none : k - 1 - (k - 1) ≡ 0 = omega arith in rw none (omega (arith, part .shared));
+      small = λ f part. let none : k - 1 - (k - 1) ≡ 0 = omega arith in rw none (omega arith);
     }
 
 module _ {k t j : ℕ} {low high : Slope} {bit : ℕ} (w : Walk k t j low high bit) where
@@ -41,11 +41,11 @@ module _ {k t j : ℕ} {low high : Slope} {bit : ℕ} (w : Walk k t j low high b
       → ((h : ℕ) → bit ≡ suc h + t → descent (suc h) t j low high ≡ descent h t j low′ high′)
       → ((f : Slope → ℕ) → Part f → f low′ + f high′ ≤ 2 * (f low + f high)) → Walk k t j low′ high′ (bit - 1)
   turned low′ high′ more on grown =
-      let next : k - 1 - (bit - 1) ≡ suc (k - 1 - bit) = omega (arith, w .inside) in
+      let next : k - 1 - (bit - 1) ≡ suc (k - 1 - bit) = omega arith in
       let doubled : 2 ^ (k - 1 - (bit - 1)) ≡ 2 ^ (k - 1 - bit) * 2 = ap (λ i. 2 ^ i) next ∙ pow-suc 2 (k - 1 - bit) in
       record {
         within = omega arith;
-        inside = omega (arith, w .inside);
+        inside = omega arith;
         leads = w .leads ∙ ap (λ i. descent i t j low high) (omega arith) ∙ on (bit - 1 - t) (omega arith);
         small = λ f part. omega (arith, grown f part, w .small f part);
       }

@@ -44,7 +44,7 @@ bits-more j m = ap (λ k. j % 2 ^ k) (sym (one-add m)) ∙ mod-pow-add j 1 m
 pub trailing-ends : (w j : ℕ) → 1 ≤ j → j < 2 ^ w → Ends j (trailingZeros w j)
 unfolding trailingZeros
 trailing-ends zero j h g = absurd (omega arith)
-trailing-ends (suc w) j h g = go (j % 2) refl (λ e. trailing-ends w (j / 2) (omega arith) (omega (arith, pow-suc 2 w)))
+trailing-ends (suc w) j h g = go (j % 2) refl (λ e. trailing-ends w (j / 2) (omega arith) (omega arith))
   where
     go : (b : ℕ) → j % 2 ≡ b → (j % 2 ≡ 0 → Ends (j / 2) (trailingZeros w (j / 2)))
         → Ends j (under b (trailingZeros w (j / 2)))

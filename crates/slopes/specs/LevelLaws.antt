@@ -271,4 +271,4 @@ module _ (f : Slope → ℕ) (part : Part f) where
       let i = levels-in-level k flat upright s m in
       let small : f s ≤ 2 ^ (i .0) * 1 = rw (part .shared) at (size-between (i .0) flat upright s (i .2)) in
       let least : 2 ^ suc (i .0) ≤ 2 ^ k = pow-mono (i .1) in
-      omega (arith, pow-suc 2 (i .0))
+      omega arith

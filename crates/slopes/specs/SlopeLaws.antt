@@ -63,7 +63,7 @@ pub levelsFor-leading : (w n : ℕ) → 1 ≤ n → n ≤ 2 ^ w → levelsFor n 
 levelsFor-leading w n h g =
     let m = leading-length w (n - 1) (omega arith) in
     levelsFor-is n (m .0) (omega arith)
-    (λ i l. let p : 2 ^ suc i ≤ 2 ^ (m .0) = pow-mono l in omega (arith, pow-suc 2 i))
+    (λ i l. let p : 2 ^ suc i ≤ 2 ^ (m .0) = pow-mono l in omega arith)
     ∙ omega arith
 
 ------------------------------------------------------------------------

@@ -25,11 +25,11 @@ pub record Zeroing (a e i : ℕ) (W X : List ℕ) : Type 0 where
   pub kept : Only a e W X
 
 pub zeroing-in : {a e i : ℕ} {W X : List ℕ} → Zeroing a e i W X → i < e → i < length X
-zeroing-in z l = omega (arith, z .kept .long, z .fit)
+zeroing-in z l = omega arith
 
 pub zeroing-step : {a e i : ℕ} {W X Y : List ℕ} → Zeroing a e i W X → i < e → Y ≡ set X i 0 → Zeroing a e (i + 1) W Y
 zeroing-step {a} {e} {i} {W} {X} {Y} z l q = record {
-  from = omega (arith, z .from);
+  from = omega arith;
   upto = omega arith;
   fit = z .fit;
   done = record {
@@ -74,7 +74,7 @@ pub tallying-start : {P W : List ℕ} → Scratch P W → Zeroed 0 (2 * length P
 tallying-start {P} {W} w z = record {
   from = omega arith;
   upto = w .nodes .some;
-  none = z .at 0 (omega arith) (omega (arith, w .nodes .some));
+  none = z .at 0 (omega arith) (omega arith);
   done = λ p b. zeroed p b ∙ sym (no-child p);
   kept = only-refl 0 (length P + 1) W;
 }
@@ -85,7 +85,7 @@ tallying-start {P} {W} w z = record {
     zeroed : (p : ℕ) → p < length P → getD W (p + 1) 0 ≡ 0
     zeroed p b =
         by-lt (p + 1) (2 * length P) (λ c. z .at (p + 1) (omega arith) c)
-        (λ c. absurd (omega (arith, w .nodes .some)))
+        (λ c. absurd (omega arith))
 
 -- what a turn reads and writes
 module _ {P W X : List ℕ} {v p : ℕ} (w : Scratch P W) (i : Tallying P W X v) (l : v < length P)
@@ -117,7 +117,7 @@ module _ {P W X : List ℕ} {v p : ℕ} (w : Scratch P W) (i : Tallying P W X v)
 pub tallying-end : {P W X : List ℕ} {v : ℕ} → Tallying P W X v → length P ≤ v → Tallied P X × Only 0 (length P + 1) W X
 unfolding children
 tallying-end {P} {W} {X} {v} i h =
-    let e : v ≡ length P = omega (arith, i .upto) in (
+    let e : v ≡ length P = omega arith in (
       record {
         none = i .none;
         at = λ p l. subst (λ (m : ℕ). getD X (p + 1) 0 ≡ count (isChild P p) m) e (i .done p l);
@@ -146,7 +146,7 @@ accumulating-start {P} {W} t = record {
 
 module _ {P W X : List ℕ} {p : ℕ} (w : Scratch P W) (i : Accumulating P W X p) (l : p < length P) where
   pub accumulating-in : p + 1 < length X
-  accumulating-in = omega (arith, w .room, i .kept .long)
+  accumulating-in = omega arith
 
   module _ {s k : ℕ} (es : s ≡ getD X p 0) (ek : k ≡ getD X (p + 1) 0) where
     accumulated : s + k ≡ sum (children P) (p + 1)
@@ -189,8 +189,8 @@ started-all w z t s =
     let o = only-trans (t .1) (s .1) in (
       s .0,
       record { at = λ k l m. o .above k l ∙ z .0 .at k (omega arith) m },
-      only-trans (z .1) (only-within o (omega arith) (omega (arith, w .nodes .some))),
+      only-trans (z .1) (only-within o (omega arith) (omega arith)),
     )
 
 pub scratch-kept : {P W X : List ℕ} → Scratch P W → length X ≡ length W → Scratch P X
-scratch-kept w e = record { nodes = w .nodes; few = w .few; room = omega (arith, w .room) }
+scratch-kept w e = record { nodes = w .nodes; few = w .few; room = omega arith }

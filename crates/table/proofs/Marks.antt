@@ -66,7 +66,7 @@ module _ {P W : List ℕ} {v u k : ℕ} (w : Scratch P W) (i : Stepping P W v u 
   pub stepping-end : length P < k → k ≡ least (λ j. marked P W (climb P j v)) (length P + 1)
   stepping-end h =
       least-is (λ j. marked P W (climb P j v)) (length P + 1) k (i .upto) (i .passed)
-      (λ l. absurd (omega (arith, i .upto)))
+      (λ l. absurd (omega arith))
 
 ------------------------------------------------------------------------
 -- Marking the way
@@ -102,7 +102,7 @@ module _ {P W X : List ℕ} {v k u i : ℕ} (r : Reaching P W v k) (p : Passing 
   above-root l =
       by-lt 0 u (λ h. h)
       (λ h.
-      absurd (differ (r .marking .root (omega (arith, r .above, r .inside)))
+      absurd (differ (r .marking .root (omega arith))
       (subst (λ (z : ℕ). marked P W z ≡ false) (sym (p .is) ∙ omega arith) (r .before i l))))
 
   leads-on : i < k → (m : ℕ) × (climb P m u ≡ 0)
@@ -203,7 +203,7 @@ module _ {P W X : List ℕ} {v k : ℕ} (i : Drifting P W X v) (l : v < length P
   drifting-found h =
       least-is (adrift P) (length P) v (i .upto) (i .fine)
       (λ _. adrift-yes P v (i .from) (λ home.
-      differ (i .marking .root (omega (arith, i .from)))
+      differ (i .marking .root (omega arith))
       (subst (λ (z : ℕ). marked P X z ≡ false) home
       (least-below (λ j. marked P X (climb P j v)) (length P + 1) (length P) (omega arith)))))
 

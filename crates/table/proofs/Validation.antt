@@ -59,7 +59,7 @@ module _ {P R W : List ℕ} (s : Shaped P R W) where
             (λ a. let z : u ≡ 0 = omega arith in absurd (omega (arith, ap (parent P) z, s .root-parent, s .some))));
       };
       few = s .few;
-      room = omega (arith, s .long);
+      room = omega arith;
     }
 
     no-5 : refuseLeast 5 (length P) (strayParent P) ≡ none

@@ -21,7 +21,7 @@ use Rattle.table.specs.Work.{Ready, Seated, Leftmost, Next, Visited}
 
 module _ {P R W : List ℕ} (w : Ready P R W) where
   pub first-in : (v : ℕ) → v < length P → v + 1 < length W
-  first-in v l = omega (arith, w .long)
+  first-in v l = omega arith
 
   -- s is the first slot of v's children, e the first after them
   module _ {v s e : ℕ} (l : v < length P) (es : s ≡ getD W v 0) (ee : e ≡ getD W (v + 1) 0) where
@@ -55,7 +55,7 @@ module _ {P R W : List ℕ} (w : Seated P R W) where
 
   pub seated-kept : {X : List ℕ} {a e : ℕ} → Only a e W X → 2 * length P ≤ a → Seated P R X
   seated-kept o h = record {
-    ready = ready-kept (w .ready) o (omega (arith, w .ready .tree .some));
+    ready = ready-kept (w .ready) o (omega arith);
     slotted = record {
       at = λ v a l.
           o .below _ (omega (
@@ -148,7 +148,7 @@ module _ {P R W : List ℕ} {v u s e : ℕ} (w : Seated P R W) (i : Descending P
     pub descending-slot : s < e → length P + 1 + s < length W
     descending-slot h =
         let inside = child-slot-in (w .ready) (i .inside) (i .slots) ee 0 (omega arith) in
-        omega (arith, w .ready .long)
+        omega arith
 
     has-child : s < e → 0 < children P u
     has-child h = omega (arith, count-is (w .ready) (i .inside) (i .slots) ee)
@@ -286,7 +286,7 @@ module _ {P R W : List ℕ} {v c : ℕ} (i : Visited P R W c) (l : v < length P)
         ap (λ (y : List ℕ). getD y (3 * length P + j) 0) ex
         ∙ read-set W (3 * length P + c) (3 * length P + j) v _ visited-order
         (λ e. sym (place-of-number (i .seated .ready .tree) v l)
-        ∙ ap (λ (k : ℕ). getD (order P R) k 0) (omega (arith, n)))
+        ∙ ap (λ (k : ℕ). getD (order P R) k 0) (omega arith))
         (λ ne. i .node j (earlier ne))
       where
         earlier : (3 * length P + j ≡ 3 * length P + c → ⊥) → j < c
@@ -407,7 +407,7 @@ walking-above {P} {R} i h =
 
 pub walking-step : {P R X Y : List ℕ} {v u c : ℕ} → Walking P R X v c → Visited P R Y (c + 1) → Next P R v u
     → Walking P R Y u (c + 1)
-walking-step i d m = record { visited = d; inside = m .inside; number = omega (arith, m .number, i .number) }
+walking-step i d m = record { visited = d; inside = m .inside; number = omega arith }
 
 pub walking-end : {P R X Y : List ℕ} {v c : ℕ} → Walking P R X v c → length P ≤ c + 1 → Visited P R Y (c + 1)
     → Visited P R Y (length P)

@@ -65,7 +65,7 @@ pub shape-fits : {L : Limits} {P R : List ℕ} {long : Bool} {work : ℕ} → Sh
     → shapeFault L P R long work ≡ none
 unfolding shapeFault
 shape-fits {L} {P} {R} {long} {work} s =
-    orElse-second _ _ (refuse-no _ 1 0 (ne-eqb (length P) 0 (λ e. omega (arith, s .some))))
+    orElse-second _ _ (refuse-no _ 1 0 (ne-eqb (length P) 0 (λ e. omega arith)))
     ∙ orElse-second _ _ (refuse-no _ (L .surplus) 0 (le-ltb (L .nodes) (length P) (s .few)))
     ∙ refuse-no _ 3 0 (ap not (both-is (eq-eqb (length R) (length P) (s .ranks))
     (both-is (s .others) (eq-eqb work (4 * length P) (s .work-long)))))

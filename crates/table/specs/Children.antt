@@ -159,7 +159,7 @@ module _ (P R : List ℕ) (g : Ranked P R) where
       let u = rank-used p r l in
       let f = least-found (isChildAt P R p r) (length P) (u .0) (u .1) (u .2) in
       let c = childAt-of P R p r _ (f .1) in
-      record { above = c .0 .above; inside = omega (arith, f .0, u .1); up = c .0 .up; ranked = c .1 }
+      record { above = c .0 .above; inside = omega arith; up = c .0 .up; ranked = c .1 }
 
   -- a node is the child of its rank
   pub childAt-only : (v : ℕ) → 0 < v → v < length P → childAt P R (parent P v) (rank R v) ≡ v

@@ -109,7 +109,7 @@ module _ {P R : List ℕ} (t : Tree P R) where
       by-lt 0 (climb P k z)
       (λ a.
       let p = parent-inside (climb P k z) a (c .0) in
-      (t .inside (climb P k z) (c .0), omega (arith, c .1, p .0), omega (arith, c .2, p .1)))
+      (t .inside (climb P k z) (c .0), omega arith, omega arith))
       (λ a.
       let root : parent P (climb P k z) ≡ climb P k z = ap (parent P) (omega arith) ∙ t .root ∙ omega arith in
       subst⁻¹ (λ (w : ℕ). (w < length P) × (start P R w ≤ start P R z) × (postNumber P R z ≤ postNumber P R w)) root c)
@@ -128,7 +128,7 @@ module _ {P R : List ℕ} (t : Tree P R) where
       by-lt j (length (forest a child m))
       (λ b.
       let e = forest-element a child m j b in
-      (e .0, e .1, omega (arith, e .2), e .3, List·getD-append (forest a child m) (a (child m)) 0 j b ∙ e .4))
+      (e .0, e .1, omega arith, e .3, List·getD-append (forest a child m) (a (child m)) 0 j b ∙ e .4))
       (λ b.
       let i : ℕ = j - length (forest a child m) in
       let s : j ≡ length (forest a child m) + (j - length (forest a child m)) = omega arith in (
@@ -170,7 +170,7 @@ module _ {P R : List ℕ} (t : Tree P R) where
       let i : ℕ = postNumber P R z - 1 - start P R v in
       let inside : (postNumber P R z - 1 - start P R v) < size P R v = omega (arith, number-is t v lv) in
       let at : postNumber P R z - 1 ≡ length (b .front) + (postNumber P R z - 1 - start P R v) =
-      omega (arith, b .long) in
+      omega arith in
       let is : getD (subtree P R v) (postNumber P R z - 1 - start P R v) 0 ≡ z =
       sym (List·getD-append (subtree P R v) (b .back) 0 _ inside)
       ∙ sym (getD-append-add (b .front) (subtree P R v ++ b .back) _ 0)

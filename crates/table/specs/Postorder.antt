@@ -82,7 +82,7 @@ first-place v (suc k) (x ∷ l) m e =
     let f = first-place v k l (le-of-suc-le-suc m) e in
     by-eq v x
     (λ q. record { low = rw (eq-eqb v x q) (omega arith); here = rw (eq-eqb v x q) (sym q) })
-    (λ ne. record { low = rw (ne-eqb v x ne) (omega (arith, f .low)); here = rw (ne-eqb v x ne) (f .here) })
+    (λ ne. record { low = rw (ne-eqb v x ne) (omega arith); here = rw (ne-eqb v x ne) (f .here) })
 
 ------------------------------------------------------------------------
 -- Subtrees

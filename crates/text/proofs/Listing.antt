@@ -24,7 +24,7 @@ pub copying-step : {A B C word : List ℕ} {at e f i b : ℕ} → Copying A B wo
     → b ≡ getD word i 0 → Appended B C e f (b ∷ []) → Copying A C word at f (i + 1)
 copying-step {A} {B} {C} {word} {at} {e} {f} {i} c h eb a = record {
   upto = omega arith;
-  ends = omega (arith, c .ends, a .ends);
+  ends = omega arith;
   text = appended-is (appended-on (c .text) a)
       (ap (λ (x : ℕ). take i word ++ (x ∷ [])) eb ∙ sym (take-suc word i 0 h) ∙ ap (λ (k : ℕ). take k word) (next i));
 }

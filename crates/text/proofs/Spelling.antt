@@ -22,7 +22,7 @@ pub power-one : Power 1
 power-one = record { places = 0; is = refl }
 
 pub power-next : {d : ℕ} → Power d → Power (10 * d)
-power-next {d} p = record { places = suc (p .places); is = omega (arith, p .is, pow-suc 10 (p .places)) }
+power-next {d} p = record { places = suc (p .places); is = omega arith }
 
 -- a power above 1 is ten times the one before it
 pub power-before : {d : ℕ} → Power d → 1 < d → (d / 10 * 10 ≡ d) × Power (d / 10)

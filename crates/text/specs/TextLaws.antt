@@ -32,7 +32,7 @@ unfolding digits
 digits-more f n h = ap (λ (b : Bool). cond b [] (digits f (n / 10)) ++ ((48 + n % 10) ∷ [])) (le-ltb n 10 h)
 
 tenth-below : (f n : ℕ) → n < 10 ^ suc (suc f) → n / 10 < 10 ^ suc f
-tenth-below f n h = omega (arith, pow-suc 10 (suc f))
+tenth-below f n h = omega arith
 
 -- more fuel than digits adds none
 pub digits-enough : (f n : ℕ) → n < 10 ^ suc f → digits (suc (suc f)) n ≡ digits (suc f) n

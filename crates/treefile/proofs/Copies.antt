@@ -24,7 +24,7 @@ filled-step {f} {a} {n} {W} {X} {Y} {i} {w} p l room ew ey = record {
   upto = omega arith;
   done = λ k m.
       ap (λ (y : List ℕ). getD y (a + k) 0) ey
-      ∙ read-set X (a + i) (a + k) w (f k) (omega (arith, p .kept .long)) (λ e. ew ∙ ap f (omega arith))
+      ∙ read-set X (a + i) (a + k) w (f k) (omega arith) (λ e. ew ∙ ap f (omega arith))
       (λ ne. p .done k (less k m ne));
   kept = only-set (a + i) w (p .kept) (omega arith) (omega arith) ey;
 }

@@ -120,7 +120,7 @@ file-written {P} {R} {B} {B₁} {B₂} {B₃} ranks long f p r =
     (r .kept .long ∙ p .kept .long ∙ f .kept .long ∙ long ∙ omega (arith, length-allBytes numbers, numbers-long))
     (λ i l.
     let e : i ≡ 4 * (i / 4) + i % 4 = omega arith in
-    let b : i / 4 < 1 + 2 * length P = omega (arith, r .kept .long, p .kept .long, f .kept .long) in
+    let b : i / 4 < 1 + 2 * length P = omega arith in
     ap (λ (x : ℕ). getD B₃ x 0) e
     ∙ here (i / 4) (i % 4) b (omega arith)
     ∙ sym (byte-at numbers (i / 4) (i % 4) (omega (arith, numbers-long)) (omega arith))

@@ -39,7 +39,7 @@ by-four X a b c d (suc (suc (suc (suc k)))) l = absurd (omega arith)
 parts : (w a b c d : ℕ) → w < 2 ^ 32 → a ≡ w % 256 → b ≡ w / 256 % 256 → c ≡ w / 65536 % 256 → d ≡ w / 16777216 % 256
     → a + 256 * b + (65536 * c + 16777216 * d) ≡ w
 parts w a b c d h ea eb ec ed =
-    let low : a + 256 * b + 65536 * (w / 65536) ≡ w = omega (arith, div-div-eq-div-mul w 256 256) in
+    let low : a + 256 * b + 65536 * (w / 65536) ≡ w = omega arith in
     let d-is : d ≡ w / 65536 / 256 % 256 = ed ∙ ap (λ (x : ℕ). x % 256) (sym (div-div-eq-div-mul w 65536 256)) in
     let high : w / 65536 % 256 + 256 * (w / 65536 / 256 % 256) ≡ w / 65536 = upper (w / 65536) (omega arith) in
     omega arith
@@ -247,9 +247,9 @@ read-written L P R work e few p r X Y ex ey =
     let ranks = ranks-back P R (s .ranks) few p r in
     let fits : openFault L (fileOf P R) (length X) (length Y) work ≡ none =
     orElse-second _ _ (refuse-no _ 16 0 (le-ltb (length (fileOf P R)) 4 (omega arith)))
-    ∙ orElse-second _ _ (refuse-no _ 1 0 (ne-eqb (statedNodes (fileOf P R)) 0 (λ z. omega (arith, s .some))))
+    ∙ orElse-second _ _ (refuse-no _ 1 0 (ne-eqb (statedNodes (fileOf P R)) 0 (λ z. omega arith)))
     ∙ orElse-second _ _ (refuse-no _ (L .surplus) 0
-    (le-ltb (L .nodes) (statedNodes (fileOf P R)) (omega (arith, s .few))))
+    (le-ltb (L .nodes) (statedNodes (fileOf P R)) (omega arith)))
     ∙ orElse-second _ _ (refuse-no _ 17 0
     (ap not (eq-eqb (length (fileOf P R)) (4 + 8 * statedNodes (fileOf P R)) (omega arith))))
     ∙ refuse-no _ 3 0 (ap not (both-is (eq-eqb (length X) (statedNodes (fileOf P R)) (ex ∙ sym stated))

@@ -58,7 +58,7 @@ put-requires-4 c κs =
     let at-loop-test = at-get .before in
     let at-loop = at-loop-test .before in
     let inside = laying-node (at-loop .loop .inv) (at-loop-test .loop-test .taken) (at-get .get .ensures .0) .inside in
-    (omega (arith, at-loop .loop .inv .times .long), omega arith)
+    (omega arith, omega arith)
 
 hang-requires : tie.Need-hang-requires Inv-loop μ-loop
 hang-requires c κs =

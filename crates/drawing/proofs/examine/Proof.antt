@@ -29,7 +29,7 @@ cast-t22 c =
     let at-enum-told = c .before .before .before in
     let at-prepare = at-enum-told .before .before .before .before in
     let few = sized (at-prepare .prepare .ensures) (at-enum-told .enum-told .given .1) .numbered .few in
-    omega (arith, c .if1 .taken)
+    omega arith
 
 same-length : tie.Need-same-length
 same-length c = search needs

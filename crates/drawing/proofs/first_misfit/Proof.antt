@@ -35,7 +35,7 @@ node-fits-requires : tie.Need-node-fits-requires Inv-loop μ-loop
 node-fits-requires c κs =
     let at-loop = c .before in
     let at-entry = at-loop .before .before .before .before .before .before .before .before .before in
-    (at-entry .pre, omega (arith, at-loop .loop .inv .some), c .loop-test .taken)
+    (at-entry .pre, omega arith, c .loop-test .taken)
 
 returns-2 : tie.Need-returns-2 Inv-loop μ-loop
 returns-2 c =

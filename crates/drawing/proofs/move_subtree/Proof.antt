@@ -52,7 +52,7 @@ get-requires-4 c κs =
     let at-loop-test = at-get3 .before in
     let at-loop = at-loop-test .before in
     let node = walk-node (at-loop .loop .inv .walk) (at-loop-test .loop-test .taken) (at-get3 .get3 .ensures .0) in
-    omega (arith, at-loop .loop .inv .long, node .inside)
+    omega arith
 
 changed-requires : tie.Need-changed-requires Inv-loop μ-loop
 changed-requires c κs =
@@ -71,7 +71,7 @@ put-requires c κs =
     let at-loop = at-loop-test .before in
     let node = walk-node (at-loop .loop .inv .walk) (at-loop-test .loop-test .taken) (at-get3 .get3 .ensures .0) in
     let fits = moving-fits (at-loop .loop .inv) node (at-get4 .get4 .ensures .0) (at-get4 .get4 .ensures .1) in
-    (omega (arith, at-loop .loop .inv .long, node .inside), omega (arith, c .changed .ensures))
+    (omega arith, omega arith)
 
 add-j : tie.Need-add-j Inv-loop μ-loop
 add-j c = omega arith

@@ -37,7 +37,7 @@ mul-placed c =
     let at-get = at-slope-at .before .before .before .before in
     let slope = at-slope-at .slope-at .result in
     let fits = product-fits (at-get .get .result) (slope .across) (at-get .get .ensures .1)
-    (omega (arith, c .struct-known .given)) in
+    (omega arith) in
     omega arith
 
 placed-requires : tie.Need-placed-requires
@@ -49,8 +49,8 @@ placed-requires c κs =
     let slope = at-slope-at .slope-at .result in
     let inside = at-entry .pre .0 .numbered .tree .inside (at-entry .args .v) (at-entry .pre .2) in
     let fits = product-fits (at-get .get .result) (slope .across) (at-get .get .ensures .1)
-    (omega (arith, c .struct-known .given)) in (
-      omega (arith, at-get2 .get2 .ensures .0, at-entry .pre .0 .x),
+    (omega arith) in (
+      omega arith,
       omega
           (arith, at-entry .pre .2, at-entry .pre .0 .x),
       fits,
@@ -79,7 +79,7 @@ mul-placed-2 c =
     let at-get = at-slope-at .before .before .before .before in
     let slope = at-slope-at .slope-at .result in
     let fits = product-fits (at-get .get .result) (slope .up) (at-get .get .ensures .1)
-    (omega (arith, c .struct-known2 .given)) in
+    (omega arith) in
     omega arith
 
 placed-requires-2 : tie.Need-placed-requires-2
@@ -91,8 +91,8 @@ placed-requires-2 c κs =
     let slope = at-slope-at .slope-at .result in
     let inside = at-entry .pre .0 .numbered .tree .inside (at-entry .args .v) (at-entry .pre .2) in
     let fits = product-fits (at-get .get .result) (slope .up) (at-get .get .ensures .1)
-    (omega (arith, c .struct-known2 .given)) in (
-      omega (arith, at-get2 .get2 .ensures .0, at-entry .pre .0 .y),
+    (omega arith) in (
+      omega arith,
       omega
           (arith, at-entry .pre .2, at-entry .pre .0 .y),
       fits,

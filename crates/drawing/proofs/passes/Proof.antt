@@ -49,7 +49,7 @@ get-requires-4 c κs =
     let at-loop-test = c .before in
     let at-loop = at-loop-test .before in
     let node = walk-node (at-loop .loop .inv .walk) (at-loop-test .loop-test .taken) (c .get3 .ensures .0) in
-    omega (arith, at-loop .loop .inv .long, node .inside)
+    omega arith
 
 add-if1 : tie.Need-add-if1 Inv-loop μ-loop
 add-if1 c = omega arith

@@ -50,7 +50,7 @@ returns-2 c =
     let at-all-long = at-validate .before .before in
     let at-entry = at-all-long .before .before .before .before .before .before .before in
     prepared-accepted _ _ _ _ (at-all-long .all-long .ensures) (at-validate .validate .ensures)
-    (omega (arith, at-entry .good))
+    (omega arith)
     (at-enum-told .enum-told .given .1) (at-number .number .ensures)
 
 pub prepare-spec : {M : Type 1} → statement M

@@ -19,7 +19,7 @@ get-requires c κs =
     let at-enum-told = c .before in
     let at-examine = at-enum-told .before .before .before .before in
     let x = checked-examined (at-examine .examine .ensures) (at-enum-told .enum-told .given .1) in
-    omega (arith, x .drawn .long, x .inside)
+    omega arith
 
 same-length : tie.Need-same-length
 same-length c = search needs

@@ -25,7 +25,7 @@ mul-move-subtree c =
     let at-entry = at-slope-at .before .before .before .before .before .before .before .before in
     let slope = at-slope-at .slope-at .result in
     let fits = product-fits (at-entry .args .count) (slope .across) (omega (arith, at-entry .fits .count))
-    (omega (arith, c .struct-known .given)) in
+    (omega arith) in
     omega arith
 
 move-subtree-requires : tie.Need-move-subtree-requires
@@ -47,7 +47,7 @@ mul-move-subtree-2 c =
     let at-entry = at-slope-at .before .before .before .before .before .before .before .before in
     let slope = at-slope-at .slope-at .result in
     let fits = product-fits (at-entry .args .count) (slope .up) (omega (arith, at-entry .fits .count))
-    (omega (arith, c .struct-known2 .given)) in
+    (omega arith) in
     omega arith
 
 move-subtree-requires-2 : tie.Need-move-subtree-requires-2
@@ -79,7 +79,7 @@ put-requires c κs =
     at-get2 .before .before .before .before .before .before .before .before .before .before .before .before .before
     .before .before .before .before .before .before .before in
     let fits = times-fit (at-entry .pre) _ (at-get2 .get2 .ensures .0) (at-get2 .get2 .ensures .1) in
-    (omega (arith, at-entry .pre .long, at-entry .pre .inside), omega (arith, c .changed .ensures))
+    (omega arith, omega arith)
 
 frame-of-requires : tie.Need-frame-of-requires
 frame-of-requires c κs = search needs

@@ -24,7 +24,7 @@ mul-passes c =
     let at-entry = at-slope-at .before .before .before .before .before .before .before .before in
     let slope = at-slope-at .slope-at .result in
     let fits = product-fits (at-entry .args .count) (slope .across) (omega (arith, at-entry .fits .count))
-    (omega (arith, c .struct-known .given)) in
+    (omega arith) in
     omega arith
 
 passes-requires : tie.Need-passes-requires
@@ -33,7 +33,7 @@ passes-requires c κs =
     let at-entry = at-slope-at .before .before .before .before .before .before .before .before in
     let slope = at-slope-at .slope-at .result in
     let fits = product-fits (at-entry .args .count) (slope .across) (omega (arith, at-entry .fits .count))
-    (omega (arith, c .struct-known .given)) in
+    (omega arith) in
     (at-entry .pre .0, at-entry .pre .1 .x .long, at-entry .pre .3, fits)
 
 returns : tie.Need-returns
@@ -56,7 +56,7 @@ mul-passes-2 c =
     let at-entry = at-slope-at .before .before .before .before .before .before .before .before in
     let slope = at-slope-at .slope-at .result in
     let fits = product-fits (at-entry .args .count) (slope .up) (omega (arith, at-entry .fits .count))
-    (omega (arith, c .struct-known2 .given)) in
+    (omega arith) in
     omega arith
 
 passes-requires-2 : tie.Need-passes-requires-2
@@ -65,7 +65,7 @@ passes-requires-2 c κs =
     let at-entry = at-slope-at .before .before .before .before .before .before .before .before in
     let slope = at-slope-at .slope-at .result in
     let fits = product-fits (at-entry .args .count) (slope .up) (omega (arith, at-entry .fits .count))
-    (omega (arith, c .struct-known2 .given)) in
+    (omega arith) in
     (at-entry .pre .0, at-entry .pre .1 .y .long, at-entry .pre .3, fits)
 
 returns-2 : tie.Need-returns-2

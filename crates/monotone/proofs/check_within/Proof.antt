@@ -63,7 +63,7 @@ cast-t17 c =
     let told = c .before .before in
     let at = start (checked told) in
     let few = few-nodes (at .args .x .now) (at .args .y .now) (same (checked told)) (accepted told) (at .pre .0) in
-    omega (arith, c .if1 .taken, few)
+    omega arith
 
 same-length : tie.Need-same-length
 same-length c = search needs

@@ -73,7 +73,7 @@ module _ (c : tie.After-turn-edge Inv-loop μ-loop) where
   parent-in : parent .get .result < length (start at .args .parent .now)
   parent-in =
       let inside = start at .pre .0 .0 .tree .inside (at .loop .z) (at .loop .inv .turning .inside) in
-      omega (arith, parent .get .ensures .0, inside)
+      omega arith
 
   next-edges : Edges (length (start at .args .parent .now)) (c .turn-edge .last .0)
   next-edges =

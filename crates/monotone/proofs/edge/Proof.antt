@@ -13,7 +13,7 @@ part-requires : tie.Need-part-requires
 part-requires c κs =
     let start = c .before in
     let known = start .pre .0 in
-    (omega (arith, known .long), known .across (start .args .z) (start .pre .1) (start .pre .2) .least)
+    (omega arith, known .across (start .args .z) (start .pre .1) (start .pre .2) .least)
 
 mul-part : tie.Need-mul-part
 mul-part c = search needs
@@ -25,7 +25,7 @@ part-requires-2 : tie.Need-part-requires-2
 part-requires-2 c κs =
     let start = c .before .before in
     let known = start .pre .0 in
-    (omega (arith, known .long), known .up (start .args .z) (start .pre .1) (start .pre .2) .least)
+    (omega arith, known .up (start .args .z) (start .pre .1) (start .pre .2) .least)
 
 returns : tie.Need-returns
 returns c =

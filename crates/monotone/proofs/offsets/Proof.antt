@@ -48,7 +48,7 @@ get-requires-3 c κs =
     let turn = c .before .before .before in
     let start = turn .before .before .before .before in
     let inside = start .pre .0 .inside (turn .loop .z) (c .before .before .loop-test .taken) in
-    omega (arith, c .before .get .ensures .0, inside, start .pre .0 .long)
+    omega arith
 
 add-put : tie.Need-add-put Inv-loop μ-loop
 add-put c = omega arith
@@ -62,7 +62,7 @@ sub-put c = omega (arith, above-near (c .before))
 put-requires : tie.Need-put-requires Inv-loop μ-loop
 put-requires c κs =
     let read = c .before in (
-      omega (arith, in-range read, start read .pre .1, turn read .loop .inv .only .long),
+      omega arith,
       omega (arith, below-near read),
     )
 

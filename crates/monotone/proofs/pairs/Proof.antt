@@ -43,7 +43,7 @@ loop-holds c =
     let test = c .before .before .before .before in
     record {
       past = omega arith;
-      most = omega (arith, test .pairs-test .taken);
+      most = omega arith;
       clear = record { none = λ w h k. absurd (omega arith) };
       still = test .before .pairs .inv .still;
     }
@@ -86,8 +86,8 @@ loop-again c =
     let place = test .before in
     let inv = place .loop .inv in
     record {
-      past = omega (arith, inv .past);
-      most = omega (arith, test .loop-test .taken);
+      past = omega arith;
+      most = omega arith;
       clear = clear-more (inv .clear) (λ e. c .if1 .left (c .before .get .ensures .0 ∙ e));
       still = inv .still;
     }
@@ -102,7 +102,7 @@ pairs-again : tie.Need-pairs-again Inv-loop μ-loop Inv-pairs μ-pairs
 pairs-again c =
     let place = c .before in
     record {
-      most = omega (arith, in-row place);
+      most = omega arith;
       only = kept place;
       passed = passed-row (start place .pre .0 .tree) (in-row place) (row place .pairs .inv .only)
           (coned place .cones .ensures)

@@ -39,7 +39,7 @@ loop-less c =
     let start = at .before .before .before in
     let less = depth-parent (start .pre .0 .tree) (at .loop .z) (test .loop-test .taken) (at .loop .inv .0 .inside) in
     let same = ap (depth (start .args .parent .now)) (c .get .ensures .0) in
-    omega (arith, less, same)
+    omega arith
 
 loop-again : tie.Need-loop-again Inv-loop μ-loop
 loop-again c =

@@ -26,7 +26,7 @@ get-requires-3 c κs =
     let parent = c .before in
     let start = parent .before .before .before .before .before .before in
     let inside = start .pre .0 .tree .inside (start .args .v) (start .pre .1 .inside) in
-    omega (arith, parent .get2 .ensures .0, inside, start .pre .0 .edges .long)
+    omega arith
 
 grow-requires : tie.Need-grow-requires
 grow-requires c κs =

@@ -7,18 +7,18 @@ use Rattle.sheetfile.proofs.lots_in.Tie as tie
 
 returns : tie.Need-returns
 unfolding lotsIn
-returns c = omega (arith, c .if1 .taken)
+returns c = omega arith
 
 sub-n : tie.Need-sub-n
 sub-n c = search needs
 
 returns-2 : tie.Need-returns-2
 unfolding lotsIn
-returns-2 c = omega (arith, c .if2 .taken)
+returns-2 c = omega arith
 
 returns-3 : tie.Need-returns-3
 unfolding lotsIn
-returns-3 c = omega (arith, c .if2 .left)
+returns-3 c = omega arith
 
 pub lots-in-spec : {M : Type 1} → statement M
 lots-in-spec = tie.close (tie.spec returns sub-n returns-2 returns-3)

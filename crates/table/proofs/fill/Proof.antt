@@ -52,7 +52,7 @@ put-requires c κs =
     let at-entry = at-loop .before .before .before .before in (
       slot-in (at-loop .loop .inv .0) (at-loop-test .loop-test .taken) (at-get .get .ensures .0)
           (at-get2 .get2 .ensures .0) (at-get3 .get3 .ensures .0),
-      omega (arith, at-entry .pre .few),
+      omega arith,
     )
 
 add-v : tie.Need-add-v Inv-loop μ-loop

@@ -36,7 +36,7 @@ put-requires c κs =
     let at-loop = at-loop-test .before in
     let at-entry = at-loop .before .before .before .before in (
       inverting-in (at-entry .pre) (at-loop .loop .inv) (at-loop-test .loop-test .taken) (at-get .get .ensures .0),
-      omega (arith, at-entry .pre .seated .ready .few),
+      omega arith,
     )
 
 add-j : tie.Need-add-j Inv-loop μ-loop

@@ -18,7 +18,7 @@ put-requires : tie.Need-put-requires
 put-requires c κs =
     let at-entry = c .before .before .before .before in (
       visited-order (at-entry .pre .0) (at-entry .pre .1) (at-entry .pre .2),
-      omega (arith, at-entry .pre .0 .seated .ready .few),
+      omega arith,
     )
 
 get-requires : tie.Need-get-requires
@@ -46,12 +46,7 @@ put-requires-2 : tie.Need-put-requires-2
 put-requires-2 c κs =
     let at-put = c .before .before .before .before .before .before .before .before in
     let at-entry = at-put .before .before .before .before .before in (
-      omega (
-        arith,
-        at-entry .pre .1,
-        noted-seated (at-entry .pre .0) (at-entry .pre .1) (at-entry .pre .2)
-            (at-put .put .ensures) .ready .long,
-      ),
+      omega arith,
       omega (
         arith,
         visited-room (at-entry .pre .0) (at-entry .pre .1) (at-entry .pre .2),

@@ -72,7 +72,7 @@ returns c =
     let at-digit = at-put-byte .before .before in
     let at-unit = at-digit .before in
     spelling-end (first-digit (at-unit .unit .ensures) (at-digit .digit .ensures) (at-put-byte .put-byte .ensures))
-    (at-loop .loop .inv) (omega (arith, c .loop-test .left))
+    (at-loop .loop .inv) (omega arith)
 
 pub put-decimal-spec : {M : Type 1} → statement M
 put-decimal-spec =

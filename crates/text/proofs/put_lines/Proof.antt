@@ -37,11 +37,11 @@ put-line-requires c κs =
     let at-loop = at-loop-test .before in
     let at-entry = at-loop .before .before .before .before .before .before in (
       listing-room _ _ (at-entry .pre) (at-loop .loop .inv) (at-loop-test .loop-test .taken),
-      omega (arith, at-loop-test .loop-test .taken, at-entry .pre .few),
-      omega (arith, at-get .get .ensures),
-      omega (arith, at-get2 .get2 .ensures),
-      omega (arith, at-get3 .get3 .ensures),
-      omega (arith, c .get4 .ensures),
+      omega arith,
+      omega arith,
+      omega arith,
+      omega arith,
+      omega arith,
     )
 
 add-v : tie.Need-add-v Inv-loop μ-loop

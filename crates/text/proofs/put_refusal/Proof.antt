@@ -29,7 +29,7 @@ put-field-requires-2 c κs =
         at-put-field .put-field .ensures .long,
         length-field (at-entry .args .number) 32,
       ),
-      omega (arith, at-entry .good),
+      omega arith,
     )
 
 same-length : tie.Need-same-length

@@ -47,7 +47,7 @@ mul-restore c =
     c .before .before .before .before .before .before .before .before .before .before .before .before .before .before
     .before .before .before .before .before .before .before .before .before .before .before .before .before
     .before .before .before .before .before in
-    omega (arith, at-entry .pre .small)
+    omega arith
 
 restore-requires : tie.Need-restore-requires
 restore-requires c κs =
@@ -66,7 +66,7 @@ mul-restore-2 c =
     c .before .before .before .before .before .before .before .before .before .before .before .before .before .before
     .before .before .before .before .before .before .before .before .before .before .before .before .before
     .before .before .before .before .before .before .before .before .before .before in
-    omega (arith, at-entry .pre .small)
+    omega arith
 
 restore-requires-2 : tie.Need-restore-requires-2
 restore-requires-2 c κs =
@@ -116,12 +116,7 @@ same-length-6 c =
     at-validate .before .before .before .before .before .before .before .before .before .before .before .before
     .before .before in
     let at-save = at-save2 .before .before .before .before .before in
-    omega (
-      arith,
-      at-validate .validate .ensures .kept .long,
-      at-save .save .ensures .1 .long,
-      at-save2 .save2 .ensures .1 .long,
-    )
+    omega arith
 
 returns-2 : tie.Need-returns-2
 returns-2 c =

@@ -49,7 +49,7 @@ returns c =
       record {
         same = λ k l. sym
             (ap (λ (j : ℕ). getD (at-loop .loop .list) j 0) (zero-plus k)
-            ∙ at-loop .loop .inv .done k (omega (arith, at-loop .loop .inv .kept .long)));
+            ∙ at-loop .loop .inv .done k (omega arith));
       },
       at-loop .loop .inv .kept .long,
     )

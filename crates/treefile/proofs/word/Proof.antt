@@ -50,8 +50,8 @@ returns c =
     let at-byte3 = c .before in
     let at-byte2 = at-byte3 .before in
     let at-byte = at-byte2 .before in (
-      omega (arith, at-byte .byte .ensures, at-byte2 .byte2 .ensures, at-byte3 .byte3 .ensures, c .byte4 .ensures),
-      omega (arith, at-byte .byte .ensures, at-byte2 .byte2 .ensures, at-byte3 .byte3 .ensures, c .byte4 .ensures),
+      omega arith,
+      omega arith,
     )
 
 pub word-spec : {M : Type 1} → statement M

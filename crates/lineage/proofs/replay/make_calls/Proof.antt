@@ -49,7 +49,7 @@ add-i c =
     .before .before in
     let at-entry =
     at-loop-test .before .before .before .before .before .before .before .before .before .before .before in
-    omega (arith, at-loop-test .loop-test .taken, at-entry .good)
+    omega arith
 
 loop-less : tie.Need-loop-less Inv-loop μ-loop
 loop-less c = omega arith
