@@ -88,7 +88,6 @@ hung {P} {R} {rule} tree {v = v} {slope = slope} part {F} {X} n f c ep es =
 pub laying-start : {P R : List ℕ} {rule : Rule} {s : Drawing} {W T X Y : List ℕ} → Blank P R rule s W
     → T ≡ set (s .times) 0 1 → X ≡ set (s .x) 0 0 → Y ≡ set (s .y) 0 0 → Laying P R rule (lent T X Y) W (length P - 1)
 laying-start {P} {R} {rule} {s} b p q r =
-    let n = tree .some in
     record {
       numbered = b .sized .numbered;
       goal = goal;

@@ -38,7 +38,6 @@ walk-start : {P R W : List ℕ} → NumberedTree P R W → (v : ℕ) → v < len
     → first ≡ getD W (2 * length P + v) 0 → Walk P R W v last (first - 1)
 walk-start {P} {R} {W} t v l e f =
     let end = e ∙ t .numbers .last v l in
-    let some = first-some t v l f in
     record {
       numbered = t;
       inside = l;
@@ -68,7 +67,6 @@ module _ {P R W : List ℕ} {v last j : ℕ} (k : Walk P R W v last j) where
   pub walk-node : {z : ℕ} → j < last → z ≡ getD W (3 * length P + j) 0 → Visit P R v j z
   walk-node {z} h is =
       let t = k .numbered in
-      let most = k .most in
       let at = number-at (t .tree) j (omega arith) in
       let node : z ≡ getD (order P R) j 0 = is ∙ t .numbers .node j (omega arith) in
       let inside : z < length P = omega arith in

@@ -69,7 +69,6 @@ changed-requires c κs =
     let at-entry =
     at-get2 .before .before .before .before .before .before .before .before .before .before .before .before .before
     .before .before .before .before .before .before .before in
-    let here = at-get2 .get2 .ensures .0 in
     (λ e. omega (arith, at-entry .pre .more e), λ e. omega (arith, at-entry .pre .less e))
 
 put-requires : tie.Need-put-requires

@@ -1,7 +1,7 @@
 -- v stands at its place of the order; its first number is its first child's, which is visited, or its own at a leaf.
 use native.Mathlib.Omega.{arith}
 use borrow.Author.Needs.{needs}
-use Rattle.table.proofs.Walks.{visited-room, visited-order, noted-seated, leaf-first, visited-slot}
+use Rattle.table.proofs.Walks.{visited-room, visited-order, leaf-first, visited-slot}
 use Rattle.table.proofs.Walks.{visited-child, child-first, visited-step}
 use Rattle.table.proofs.visit.Statement.{statement}
 use Rattle.table.proofs.visit.Tie as tie
