@@ -119,11 +119,15 @@ pub extern "C" fn lineage_layout(
     work: &mut [u32],
     reply: &mut [i64],
 ) -> bool
-    ensures { λ b. ⌜ Exported (Laid large (now (parent .entry)) (now (rank .entry)) (ruleOf balanced)
+    ensures { λ b. ⌜ Exported
+        (Laid large (now (parent .entry)) (now (rank .entry)) (ruleOf balanced)
         (lent (now (times .entry)) (now (x .entry)) (now (y .entry))) (now (work .entry))
-        (lent (now (times .exit)) (now (x .exit)) (now (y .exit))) (now (work .exit))) framedReply
-        ((lent (now (times .exit)) (now (x .exit)) (now (y .exit)) ≡ lent (now (times .entry)) (now (x .entry))
-        (now (y .entry))) × (now (work .exit) ≡ now (work .entry))) (now (reply .entry)) (now (reply .exit)) b ⌝ }
+        (lent (now (times .exit)) (now (x .exit)) (now (y .exit))) (now (work .exit)))
+        framedReply
+        ((lent (now (times .exit)) (now (x .exit)) (now (y .exit))
+        ≡ lent (now (times .entry)) (now (x .entry)) (now (y .entry)))
+        × (now (work .exit) ≡ now (work .entry)))
+        (now (reply .entry)) (now (reply .exit)) b ⌝ }
 {
     if reply.len() != 3 {
         return false;
@@ -147,11 +151,15 @@ pub extern "C" fn lineage_lengthen(
     count: u32,
     reply: &mut [i64],
 ) -> bool
-    ensures { λ b. ⌜ Exported (Lengthened large (now (parent .entry)) (now (rank .entry)) (ruleOf balanced)
+    ensures { λ b. ⌜ Exported
+        (Lengthened large (now (parent .entry)) (now (rank .entry)) (ruleOf balanced)
         (lent (now (times .entry)) (now (x .entry)) (now (y .entry))) (now (work .entry)) lot count
-        (lent (now (times .exit)) (now (x .exit)) (now (y .exit))) (now (work .exit))) framedReply
-        ((lent (now (times .exit)) (now (x .exit)) (now (y .exit)) ≡ lent (now (times .entry)) (now (x .entry))
-        (now (y .entry))) × (now (work .exit) ≡ now (work .entry))) (now (reply .entry)) (now (reply .exit)) b ⌝ }
+        (lent (now (times .exit)) (now (x .exit)) (now (y .exit))) (now (work .exit)))
+        framedReply
+        ((lent (now (times .exit)) (now (x .exit)) (now (y .exit))
+        ≡ lent (now (times .entry)) (now (x .entry)) (now (y .entry)))
+        × (now (work .exit) ≡ now (work .entry)))
+        (now (reply .entry)) (now (reply .exit)) b ⌝ }
 {
     if reply.len() != 3 {
         return false;
@@ -185,11 +193,15 @@ pub extern "C" fn lineage_shorten(
     count: u32,
     reply: &mut [i64],
 ) -> bool
-    ensures { λ b. ⌜ Exported (Shortened large (now (parent .entry)) (now (rank .entry)) (ruleOf balanced)
+    ensures { λ b. ⌜ Exported
+        (Shortened large (now (parent .entry)) (now (rank .entry)) (ruleOf balanced)
         (lent (now (times .entry)) (now (x .entry)) (now (y .entry))) (now (work .entry)) lot count
-        (lent (now (times .exit)) (now (x .exit)) (now (y .exit))) (now (work .exit))) framedReply
-        ((lent (now (times .exit)) (now (x .exit)) (now (y .exit)) ≡ lent (now (times .entry)) (now (x .entry))
-        (now (y .entry))) × (now (work .exit) ≡ now (work .entry))) (now (reply .entry)) (now (reply .exit)) b ⌝ }
+        (lent (now (times .exit)) (now (x .exit)) (now (y .exit))) (now (work .exit)))
+        framedReply
+        ((lent (now (times .exit)) (now (x .exit)) (now (y .exit))
+        ≡ lent (now (times .entry)) (now (x .entry)) (now (y .entry)))
+        × (now (work .exit) ≡ now (work .entry)))
+        (now (reply .entry)) (now (reply .exit)) b ⌝ }
 {
     if reply.len() != 3 {
         return false;
@@ -220,8 +232,11 @@ pub extern "C" fn lineage_direction(
     to: u32,
     reply: &mut [i64],
 ) -> bool
-    ensures { λ b. ⌜ Exported (Directed large (now (parent .entry)) (now (rank .entry)) (ruleOf balanced)
-        (now (work .entry)) (now (work .exit)) from to) headingReply (now (work .exit) ≡ now (work .entry))
+    ensures { λ b. ⌜ Exported
+        (Directed large (now (parent .entry)) (now (rank .entry)) (ruleOf balanced) (now (work .entry))
+        (now (work .exit)) from to)
+        headingReply
+        (now (work .exit) ≡ now (work .entry))
         (now (reply .entry)) (now (reply .exit)) b ⌝ }
 {
     if reply.len() != 3 {
@@ -243,8 +258,11 @@ pub extern "C" fn lineage_check(
     work: &mut [u32],
     reply: &mut [i64],
 ) -> bool
-    ensures { λ b. ⌜ Exported (Checked checked (now (parent .entry)) (now (rank .entry)) (now (x .entry))
-        (now (y .entry)) (now (work .entry)) (now (work .exit))) verdictReply (now (work .exit) ≡ now (work .entry))
+    ensures { λ b. ⌜ Exported
+        (Checked checked (now (parent .entry)) (now (rank .entry)) (now (x .entry)) (now (y .entry))
+        (now (work .entry)) (now (work .exit)))
+        verdictReply
+        (now (work .exit) ≡ now (work .entry))
         (now (reply .entry)) (now (reply .exit)) b ⌝ }
 {
     if reply.len() != 3 {
@@ -264,10 +282,13 @@ pub extern "C" fn lineage_read_tree(
     work: &mut [u32],
     reply: &mut [i64],
 ) -> bool
-    ensures { λ b. ⌜ Exported (Read large (now (bytes .entry)) (now (parent .entry)) (now (rank .entry))
-        (now (work .entry)) (now (parent .exit)) (now (rank .exit)) (now (work .exit))) loadedReply
-        ((now (parent .exit) ≡ now (parent .entry)) × (now (rank .exit) ≡ now (rank .entry)) × (now (work .exit) ≡ now
-        (work .entry))) (now (reply .entry)) (now (reply .exit)) b ⌝ }
+    ensures { λ b. ⌜ Exported
+        (Read large (now (bytes .entry)) (now (parent .entry)) (now (rank .entry)) (now (work .entry))
+        (now (parent .exit)) (now (rank .exit)) (now (work .exit)))
+        loadedReply
+        ((now (parent .exit) ≡ now (parent .entry)) × (now (rank .exit) ≡ now (rank .entry))
+        × (now (work .exit) ≡ now (work .entry)))
+        (now (reply .entry)) (now (reply .exit)) b ⌝ }
 {
     if reply.len() != 3 {
         return false;
@@ -286,10 +307,12 @@ pub extern "C" fn lineage_write_tree(
     work: &mut [u32],
     reply: &mut [i64],
 ) -> bool
-    ensures { λ b. ⌜ Exported (Wrote large (now (parent .entry)) (now (rank .entry)) (now (bytes .entry))
-        (now (work .entry)) (now (bytes .exit)) (now (work .exit))) savedReply
-        ((now (bytes .exit) ≡ now (bytes .entry)) × (now (work .exit) ≡ now (work .entry))) (now (reply .entry))
-        (now (reply .exit)) b ⌝ }
+    ensures { λ b. ⌜ Exported
+        (Wrote large (now (parent .entry)) (now (rank .entry)) (now (bytes .entry)) (now (work .entry))
+        (now (bytes .exit)) (now (work .exit)))
+        savedReply
+        ((now (bytes .exit) ≡ now (bytes .entry)) × (now (work .exit) ≡ now (work .entry)))
+        (now (reply .entry)) (now (reply .exit)) b ⌝ }
 {
     if reply.len() != 3 {
         return false;
