@@ -32,49 +32,94 @@ macro_rules! calls {
             type InOut = *mut u32;
 
             extern "C" {
-                fn $layout(b: bool, p: In, pn: usize, r: In, rn: usize, t: InOut, tn: usize, x: InOut, xn: usize, y: InOut, yn: usize, w: InOut, wn: usize, q: *mut i64, qn: usize) -> bool;
-                fn $lengthen(b: bool, p: In, pn: usize, r: In, rn: usize, t: InOut, tn: usize, x: InOut, xn: usize, y: InOut, yn: usize, w: InOut, wn: usize, lot: u32, count: u32, q: *mut i64, qn: usize) -> bool;
-                fn $shorten(b: bool, p: In, pn: usize, r: In, rn: usize, t: InOut, tn: usize, x: InOut, xn: usize, y: InOut, yn: usize, w: InOut, wn: usize, lot: u32, count: u32, q: *mut i64, qn: usize) -> bool;
-                fn $direction(b: bool, p: In, pn: usize, r: In, rn: usize, w: InOut, wn: usize, from: u32, to: u32, q: *mut i64, qn: usize) -> bool;
-                fn $check(p: In, pn: usize, r: In, rn: usize, x: In, xn: usize, y: In, yn: usize, w: InOut, wn: usize, q: *mut i64, qn: usize) -> bool;
-                fn $read(b: *const u8, bn: usize, p: InOut, pn: usize, r: InOut, rn: usize, w: InOut, wn: usize, q: *mut i64, qn: usize) -> bool;
-                fn $write(p: In, pn: usize, r: In, rn: usize, b: *mut u8, bn: usize, w: InOut, wn: usize, q: *mut i64, qn: usize) -> bool;
+                fn $layout(
+                    b: bool, p: In, pn: usize, r: In, rn: usize, t: InOut, tn: usize, x: InOut, xn: usize,
+                    y: InOut, yn: usize, w: InOut, wn: usize, q: *mut i64, qn: usize,
+                ) -> bool;
+                fn $lengthen(
+                    b: bool, p: In, pn: usize, r: In, rn: usize, t: InOut, tn: usize, x: InOut, xn: usize,
+                    y: InOut, yn: usize, w: InOut, wn: usize, lot: u32, count: u32, q: *mut i64, qn: usize,
+                ) -> bool;
+                fn $shorten(
+                    b: bool, p: In, pn: usize, r: In, rn: usize, t: InOut, tn: usize, x: InOut, xn: usize,
+                    y: InOut, yn: usize, w: InOut, wn: usize, lot: u32, count: u32, q: *mut i64, qn: usize,
+                ) -> bool;
+                fn $direction(
+                    b: bool, p: In, pn: usize, r: In, rn: usize, w: InOut, wn: usize, from: u32, to: u32,
+                    q: *mut i64, qn: usize,
+                ) -> bool;
+                fn $check(
+                    p: In, pn: usize, r: In, rn: usize, x: In, xn: usize, y: In, yn: usize, w: InOut,
+                    wn: usize, q: *mut i64, qn: usize,
+                ) -> bool;
+                fn $read(
+                    b: *const u8, bn: usize, p: InOut, pn: usize, r: InOut, rn: usize, w: InOut, wn: usize,
+                    q: *mut i64, qn: usize,
+                ) -> bool;
+                fn $write(
+                    p: In, pn: usize, r: In, rn: usize, b: *mut u8, bn: usize, w: InOut, wn: usize,
+                    q: *mut i64, qn: usize,
+                ) -> bool;
             }
 
             // SAFETY, of all: each address has its list's length, and the lists are apart.
             pub fn layout(l: &mut Lists, balanced: bool) {
                 let n = l.lots();
-                assert!(unsafe { $layout(balanced, l.parent.as_ptr(), n, l.rank.as_ptr(), n, l.times.as_mut_ptr(), n, l.x.as_mut_ptr(), n, l.y.as_mut_ptr(), n, l.work.as_mut_ptr(), 4 * n, l.reply.as_mut_ptr(), 3) });
+                assert!(unsafe { $layout(
+                    balanced, l.parent.as_ptr(), n, l.rank.as_ptr(), n, l.times.as_mut_ptr(), n,
+                    l.x.as_mut_ptr(), n, l.y.as_mut_ptr(), n, l.work.as_mut_ptr(), 4 * n, l.reply.as_mut_ptr(),
+                    3,
+                ) });
             }
 
             pub fn lengthen(l: &mut Lists, balanced: bool, lot: u32) {
                 let n = l.lots();
-                assert!(unsafe { $lengthen(balanced, l.parent.as_ptr(), n, l.rank.as_ptr(), n, l.times.as_mut_ptr(), n, l.x.as_mut_ptr(), n, l.y.as_mut_ptr(), n, l.work.as_mut_ptr(), 4 * n, lot, 1, l.reply.as_mut_ptr(), 3) });
+                assert!(unsafe { $lengthen(
+                    balanced, l.parent.as_ptr(), n, l.rank.as_ptr(), n, l.times.as_mut_ptr(), n,
+                    l.x.as_mut_ptr(), n, l.y.as_mut_ptr(), n, l.work.as_mut_ptr(), 4 * n, lot, 1,
+                    l.reply.as_mut_ptr(), 3,
+                ) });
             }
 
             pub fn shorten(l: &mut Lists, balanced: bool, lot: u32) {
                 let n = l.lots();
-                assert!(unsafe { $shorten(balanced, l.parent.as_ptr(), n, l.rank.as_ptr(), n, l.times.as_mut_ptr(), n, l.x.as_mut_ptr(), n, l.y.as_mut_ptr(), n, l.work.as_mut_ptr(), 4 * n, lot, 1, l.reply.as_mut_ptr(), 3) });
+                assert!(unsafe { $shorten(
+                    balanced, l.parent.as_ptr(), n, l.rank.as_ptr(), n, l.times.as_mut_ptr(), n,
+                    l.x.as_mut_ptr(), n, l.y.as_mut_ptr(), n, l.work.as_mut_ptr(), 4 * n, lot, 1,
+                    l.reply.as_mut_ptr(), 3,
+                ) });
             }
 
             pub fn direction(l: &mut Lists, balanced: bool, from: u32, to: u32) {
                 let n = l.lots();
-                assert!(unsafe { $direction(balanced, l.parent.as_ptr(), n, l.rank.as_ptr(), n, l.work.as_mut_ptr(), 4 * n, from, to, l.reply.as_mut_ptr(), 3) });
+                assert!(unsafe { $direction(
+                    balanced, l.parent.as_ptr(), n, l.rank.as_ptr(), n, l.work.as_mut_ptr(), 4 * n, from, to,
+                    l.reply.as_mut_ptr(), 3,
+                ) });
             }
 
             pub fn check(l: &mut Lists) {
                 let n = l.lots();
-                assert!(unsafe { $check(l.parent.as_ptr(), n, l.rank.as_ptr(), n, l.x.as_ptr(), n, l.y.as_ptr(), n, l.work.as_mut_ptr(), 4 * n, l.reply.as_mut_ptr(), 3) });
+                assert!(unsafe { $check(
+                    l.parent.as_ptr(), n, l.rank.as_ptr(), n, l.x.as_ptr(), n, l.y.as_ptr(), n,
+                    l.work.as_mut_ptr(), 4 * n, l.reply.as_mut_ptr(), 3,
+                ) });
             }
 
             pub fn read_tree(l: &mut Lists) {
                 let n = l.lots();
-                assert!(unsafe { $read(l.bytes.as_ptr(), 4 + 8 * n, l.parent.as_mut_ptr(), n, l.rank.as_mut_ptr(), n, l.work.as_mut_ptr(), 4 * n, l.reply.as_mut_ptr(), 3) });
+                assert!(unsafe { $read(
+                    l.bytes.as_ptr(), 4 + 8 * n, l.parent.as_mut_ptr(), n, l.rank.as_mut_ptr(), n,
+                    l.work.as_mut_ptr(), 4 * n, l.reply.as_mut_ptr(), 3,
+                ) });
             }
 
             pub fn write_tree(l: &mut Lists) {
                 let n = l.lots();
-                assert!(unsafe { $write(l.parent.as_ptr(), n, l.rank.as_ptr(), n, l.bytes.as_mut_ptr(), 4 + 8 * n, l.work.as_mut_ptr(), 4 * n, l.reply.as_mut_ptr(), 3) });
+                assert!(unsafe { $write(
+                    l.parent.as_ptr(), n, l.rank.as_ptr(), n, l.bytes.as_mut_ptr(), 4 + 8 * n,
+                    l.work.as_mut_ptr(), 4 * n, l.reply.as_mut_ptr(), 3,
+                ) });
             }
         }
     };
