@@ -10,11 +10,6 @@ mod c {
     type In = *const u32;
     type InOut = *mut u32;
 
-    /// `lineage_lengthen` and `lineage_shorten`.
-    pub type Stretch = unsafe extern "C" fn(
-        bool, In, usize, In, usize, InOut, usize, InOut, usize, InOut, usize, InOut, usize, u32, u32, *mut i64, usize,
-    ) -> bool;
-
     extern "C" {
         pub fn lineage_layout(
             balanced: bool, parent: In, parents: usize, rank: In, ranks: usize, times: InOut, times_length: usize,
@@ -81,54 +76,31 @@ pub fn layout(balanced: bool, parent: &[u32], rank: &[u32], s: Lists, work: &mut
     unsafe { c::lineage_layout(balanced, p, pn, r, rn, t, tn, x, xn, y, yn, w, wn, q, qn) }
 }
 
-#[allow(clippy::too_many_arguments)]
-fn stretch(
-    call: c::Stretch,
-    balanced: bool,
-    parent: &[u32],
-    rank: &[u32],
-    s: Lists,
-    work: &mut [u32],
-    lot: u32,
-    count: u32,
-    reply: &mut [i64],
-) -> bool {
-    let ((p, pn), (r, rn)) = (lend!(parent), lend!(rank));
-    let ((t, tn), (x, xn), (y, yn)) = (lend_mut!(s.times), lend_mut!(s.x), lend_mut!(s.y));
-    let ((w, wn), (q, qn)) = (lend_mut!(work), lend_mut!(reply));
-    // SAFETY: as in `layout`.
-    unsafe { call(balanced, p, pn, r, rn, t, tn, x, xn, y, yn, w, wn, lot, count, q, qn) }
+macro_rules! stretch {
+    ($name:ident, $call:ident) => {
+        /// {1, width, height}.
+        #[allow(clippy::too_many_arguments)]
+        pub fn $name(
+            balanced: bool,
+            parent: &[u32],
+            rank: &[u32],
+            s: Lists,
+            work: &mut [u32],
+            lot: u32,
+            count: u32,
+            reply: &mut [i64],
+        ) -> bool {
+            let ((p, pn), (r, rn)) = (lend!(parent), lend!(rank));
+            let ((t, tn), (x, xn), (y, yn)) = (lend_mut!(s.times), lend_mut!(s.x), lend_mut!(s.y));
+            let ((w, wn), (q, qn)) = (lend_mut!(work), lend_mut!(reply));
+            // SAFETY: as in `layout`.
+            unsafe { c::$call(balanced, p, pn, r, rn, t, tn, x, xn, y, yn, w, wn, lot, count, q, qn) }
+        }
+    };
 }
 
-/// {1, width, height}.
-#[allow(clippy::too_many_arguments)]
-pub fn lengthen(
-    balanced: bool,
-    parent: &[u32],
-    rank: &[u32],
-    s: Lists,
-    work: &mut [u32],
-    lot: u32,
-    count: u32,
-    reply: &mut [i64],
-) -> bool {
-    stretch(c::lineage_lengthen, balanced, parent, rank, s, work, lot, count, reply)
-}
-
-/// {1, width, height}.
-#[allow(clippy::too_many_arguments)]
-pub fn shorten(
-    balanced: bool,
-    parent: &[u32],
-    rank: &[u32],
-    s: Lists,
-    work: &mut [u32],
-    lot: u32,
-    count: u32,
-    reply: &mut [i64],
-) -> bool {
-    stretch(c::lineage_shorten, balanced, parent, rank, s, work, lot, count, reply)
-}
+stretch!(lengthen, lineage_lengthen);
+stretch!(shorten, lineage_shorten);
 
 /// {1, d, e}.
 pub fn direction(
