@@ -10,10 +10,10 @@
 //! let tree = Tree::new(vec![0, 0, 0, 1, 1], vec![0, 0, 1, 0, 1])?;
 //! let mut sheet = Sheet::new(tree, Rule::Steep)?;
 //! assert_eq!(sheet.frame(), Frame { width: 2, height: 5 });
-//! assert_eq!(sheet.place(4), (2, 5));
+//! assert_eq!(sheet.place(4), Some((2, 5)));
 //!
 //! sheet.lengthen(1, 2)?;
-//! assert_eq!(sheet.place(4), (4, 11));
+//! assert_eq!(sheet.place(4), Some((4, 11)));
 //! assert_eq!(sheet.direction(3, 2)?, Direction { d: -7, e: 2 });
 //!
 //! let refused = sheet.shorten(1, 3).unwrap_err();
@@ -216,14 +216,18 @@ impl Tree {
         children
     }
 
-    /// The lots of the tree path from u to v, both included.
+    /// The lots of the tree path from u to v, both included; `None` where one of them is no lot.
     ///
     /// ```
     /// let tree = lineage::Tree::new(vec![0, 0, 0, 1, 1], vec![0, 0, 1, 0, 1])?;
-    /// assert_eq!(tree.path(3, 2), [3, 1, 0, 2]);
+    /// assert_eq!(tree.path(3, 2), Some(vec![3, 1, 0, 2]));
+    /// assert_eq!(tree.path(3, 5), None);
     /// # Ok::<(), lineage::Refused>(())
     /// ```
-    pub fn path(&self, u: u32, v: u32) -> Vec<u32> {
+    pub fn path(&self, u: u32, v: u32) -> Option<Vec<u32>> {
+        if u.max(v) as usize >= self.lots() {
+            return None;
+        }
         let up = |mut z: u32| {
             let mut way = vec![z];
             while z != 0 {
@@ -239,7 +243,7 @@ impl Tree {
         }
         back.pop();
         there.extend(back.iter().rev());
-        there
+        Some(there)
     }
 }
 
@@ -392,8 +396,8 @@ impl Sheet {
         &self.y
     }
 
-    /// The place of a lot.
-    pub fn place(&self, lot: u32) -> (u32, u32) {
-        (self.x[lot as usize], self.y[lot as usize])
+    /// The place of a lot; `None` where there is no such lot.
+    pub fn place(&self, lot: u32) -> Option<(u32, u32)> {
+        Some((*self.x.get(lot as usize)?, *self.y.get(lot as usize)?))
     }
 }

@@ -48,7 +48,7 @@ fn holds(sheet: &Sheet, slopes: &[Place], added: &[i128]) {
                 continue;
             }
             let along = sheet.direction(u as u32, v as u32).unwrap();
-            for step in tree.path(u as u32, v as u32).windows(2) {
+            for step in tree.path(u as u32, v as u32).expect("two lots").windows(2) {
                 let (a, b) = (place(step[0] as usize), place(step[1] as usize));
                 let rise = along.d as i128 * (b.0 - a.0) + along.e as i128 * (b.1 - a.1);
                 assert!(rise > 0, "{u} to {v} along {along} at {step:?}: {tree:?}");

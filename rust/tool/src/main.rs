@@ -197,7 +197,7 @@ fn sheet(o: &Options) -> Result<(), Stop> {
     let sheet = o.sheet()?;
     let mut text = String::new();
     for v in 0..sheet.tree().lots() {
-        let (times, (x, y)) = (sheet.times()[v], sheet.place(v as u32));
+        let (times, x, y) = (sheet.times()[v], sheet.x()[v], sheet.y()[v]);
         writeln!(text, "{v} {times} {x} {y}").unwrap();
     }
     let frame = sheet.frame();

@@ -18,7 +18,7 @@ pub fn page(sheet: &Sheet, path: Option<(u32, u32, Direction)>, to_scale: bool) 
         scale = (least, least);
     }
     let at = |v: u32| {
-        let (x, y) = sheet.place(v);
+        let (x, y) = (sheet.x()[v as usize], sheet.y()[v as usize]);
         (MARGIN + f64::from(x) * scale.0, PAGE.1 - MARGIN - f64::from(y) * scale.1)
     };
     let n = sheet.tree().lots() as u32;
@@ -90,7 +90,7 @@ fn highlight(
     scale: (f64, f64),
 ) {
     let points: Vec<String> =
-        sheet.tree().path(u, v).iter().map(|&z| format!("{:.1},{:.1}", at(z).0, at(z).1)).collect();
+        sheet.tree().path(u, v).unwrap_or_default().iter().map(|&z| format!("{:.1},{:.1}", at(z).0, at(z).1)).collect();
     line(
         w,
         &format!(
