@@ -1,8 +1,8 @@
 -- The test of refusal 8, node by node: the least node that does not fit.
-use mathlib.Core.Bool.{Bool, true, false, not, _&&_}
+use mathlib.Core.Bool.{Bool, true, false, cond, not, _&&_}
 use mathlib.Core.List.{List}
 use mathlib.Core.Path.{_≡_, sym, ap, ap₂, subst⁻¹, _∙_}
-use Prim.Native.Nat.{ℕ, _+_, _*_, _^_, _≤_, _<_}
+use Prim.Native.Nat.{ℕ, _+_, _-_, _*_, _^_, _≤_, _<_, min}
 use native.Mathlib.Nat.{mul-le-mul}
 use native.Mathlib.Omega.{arith}
 use lib.Dec.{leb, eqb}
@@ -11,14 +11,15 @@ use borrow.Author.Tests.{lt-leb, le-leb, eqb-true}
 use Rattle.laws.specs.Search.{least}
 use Rattle.laws.specs.SearchLaws.{least-is}
 use Rattle.laws.specs.Tests.{by-test, by-eq}
-use Rattle.table.specs.Numbering.{numbering}
-use Rattle.table.specs.Table.{parent}
+use Rattle.table.specs.Numbering.{numbering, root-last}
+use Rattle.table.specs.Table.{parent, postNumber}
+use Rattle.table.specs.TableLaws.{Tree}
 use Rattle.slopes.specs.declared.Rule.{Rule}
 use Rattle.slopes.specs.declared.Slope.{Slope}
 use Rattle.slopes.specs.Slopes.{acrossOf, upOf, slopeAt, edge}
 use Rattle.drawing.specs.Drawing.{Drawing, placed, nodeFits}
 use Rattle.drawing.specs.DrawingLaws.{bothPlaced, placed-root, placed-node, fits-root, fits-node}
-use Rattle.drawing.specs.Parts.{NumberedTree}
+use Rattle.drawing.specs.Parts.{NumberedTree, Numbers, rootFits}
 use Rattle.drawing.proofs.Conjunction.{first-fails, first-holds}
 
 ------------------------------------------------------------------------
@@ -92,8 +93,7 @@ module _ (limit : ℕ) (P R : List ℕ) (rule : Rule) (s : Drawing) where
       (λ e. ap (λ b. b && leb a limit) e ∙ le-leb a limit (omega (arith, eqb-true a 0 e)) ∙ sym e)
       (λ e. ap (λ b. b && leb a limit) e ∙ sym e)
 
-  pub root-test : nodeFits limit P R rule s 0
-      ≡ eqb (getD (s .times) 0 0) 1 && (eqb (getD (s .x) 0 0) 0 && eqb (getD (s .y) 0 0) 0)
+  pub root-test : nodeFits limit P R rule s 0 ≡ rootFits s
   unfolding bothPlaced
   root-test =
       fits-root limit P R rule s
@@ -102,52 +102,110 @@ module _ (limit : ℕ) (P R : List ℕ) (rule : Rule) (s : Drawing) where
       (placed-root limit P R rule (s .times) upOf (s .y) ∙ zero-within (getD (s .y) 0 0))
 
 ------------------------------------------------------------------------
--- The least node that does not fit
-
--- every node below v fits
-pub record Fitting (limit : ℕ) (P R : List ℕ) (rule : Rule) (s : Drawing) (v : ℕ) : Type 0 where
-  pub some : 1 ≤ v
-  pub inside : v ≤ length P
-  pub before : (z : ℕ) → z < v → nodeFits limit P R rule s z ≡ true
+-- The least node that does not fit, of a drawing whose root fits
 
 module _ (limit : ℕ) (P R : List ℕ) (rule : Rule) (s : Drawing) where
   abbrev misfit : ℕ → Bool
   misfit z = not (nodeFits limit P R rule s z)
 
-  pub fitting-root : {r : Bool} → 0 < length P
-      → r ≡ (eqb (getD (s .times) 0 0) 1 && (eqb (getD (s .x) 0 0) 0 && eqb (getD (s .y) 0 0) 0)) → r ≡ false
-      → 0 ≡ least misfit (length P)
-  fitting-root some e f =
+  pub misfit-root : {r : Bool} → 0 < length P → r ≡ rootFits s → r ≡ false → 0 ≡ least misfit (length P)
+  misfit-root some e f =
       least-is misfit (length P) 0 (omega arith) (λ k l. absurd (omega arith))
       (λ l. ap not (root-test limit P R rule s ∙ sym e ∙ f))
 
-  pub fitting-start : {r : Bool} → 0 < length P
-      → r ≡ (eqb (getD (s .times) 0 0) 1 && (eqb (getD (s .x) 0 0) 0 && eqb (getD (s .y) 0 0) 0)) → r ≡ true
-      → Fitting limit P R rule s 1
-  fitting-start some e f = record {
-    some = omega arith;
-    inside = some;
-    before = λ z l. subst⁻¹ (λ k. nodeFits limit P R rule s k ≡ true) (omega arith)
-        (root-test limit P R rule s ∙ sym e ∙ f);
-  }
+-- node by node: every node below v fits
+pub record FitBelow (limit : ℕ) (P R : List ℕ) (rule : Rule) (s : Drawing) (v : ℕ) : Type 0 where
+  pub some : 1 ≤ v
+  pub inside : v ≤ length P
+  pub before : (z : ℕ) → z < v → nodeFits limit P R rule s z ≡ true
 
-module _ {limit : ℕ} {P R : List ℕ} {rule : Rule} {s : Drawing} {v : ℕ} (x : Fitting limit P R rule s v) where
-  pub fitting-step : {r : Bool} → v < length P → r ≡ nodeFits limit P R rule s v → r ≡ true
-      → Fitting limit P R rule s (v + 1)
-  fitting-step l e t = record {
+pub below-start : {limit : ℕ} {P R : List ℕ} {rule : Rule} {s : Drawing} → 0 < length P → rootFits s ≡ true
+    → FitBelow limit P R rule s 1
+below-start {limit} {P} {R} {rule} {s} some root = record {
+  some = omega arith;
+  inside = some;
+  before = λ z l.
+      subst⁻¹ (λ k. nodeFits limit P R rule s k ≡ true) (omega arith) (root-test limit P R rule s ∙ root);
+}
+
+module _ {limit : ℕ} {P R : List ℕ} {rule : Rule} {s : Drawing} {v : ℕ} (x : FitBelow limit P R rule s v) where
+  pub below-step : {r : Bool} → v < length P → r ≡ nodeFits limit P R rule s v → r ≡ true
+      → FitBelow limit P R rule s (v + 1)
+  below-step l e t = record {
     some = omega arith;
     inside = omega arith;
     before = λ z h. by-eq z v (λ q. subst⁻¹ (λ k. nodeFits limit P R rule s k ≡ true) q (sym e ∙ t))
         (λ ne. x .before z (omega arith));
   }
 
-  pub fitting-not : {r : Bool} → v < length P → r ≡ nodeFits limit P R rule s v → r ≡ false
+  pub below-not : {r : Bool} → v < length P → r ≡ nodeFits limit P R rule s v → r ≡ false
       → v ≡ least (misfit limit P R rule s) (length P)
-  fitting-not l e f =
+  below-not l e f =
       least-is (misfit limit P R rule s) (length P) v (omega arith) (λ k h. ap not (x .before k h))
       (λ h. ap not (sym e ∙ f))
 
-  pub fitting-end : length P ≤ v → length P ≡ least (misfit limit P R rule s) (length P)
-  fitting-end h =
+  pub below-end : length P ≤ v → length P ≡ least (misfit limit P R rule s) (length P)
+  below-end h =
       least-is (misfit limit P R rule s) (length P) (length P) (omega arith) (λ k l. ap not (x .before k (omega arith)))
       (λ l. absurd (omega arith))
+
+-- by number, the last first: of the nodes with numbers above j, u is the least that doesn't fit, or n
+pub record LeastAbove (limit : ℕ) (P R : List ℕ) (rule : Rule) (s : Drawing) (j u : ℕ) : Type 0 where
+  pub tree : Tree P R
+  pub most : u ≤ length P
+  pub here : u < length P → nodeFits limit P R rule s u ≡ false
+  pub before : (z : ℕ) → z < u → z < length P → j < postNumber P R z → nodeFits limit P R rule s z ≡ true
+
+-- the root has the last number
+pub above-start : {limit : ℕ} {P R : List ℕ} {rule : Rule} {s : Drawing} → Tree P R → rootFits s ≡ true
+    → LeastAbove limit P R rule s (length P - 1) (length P)
+above-start {limit} {P} {R} {rule} {s} tree root = record {
+  tree = tree;
+  most = omega arith;
+  here = λ l. absurd (omega arith);
+  before = λ z m l b.
+      let last : postNumber P R z ≡ postNumber P R 0 = omega (arith, numbering tree .to-n z l, root-last tree) in
+      subst⁻¹ (λ k. nodeFits limit P R rule s k ≡ true) (numbering tree .once z 0 l (tree .some) last)
+      (root-test limit P R rule s ∙ root);
+}
+
+module _ {limit : ℕ} {P R : List ℕ} {rule : Rule} {s : Drawing} {j u : ℕ}
+    (x : LeastAbove limit P R rule s j u) where
+  -- a node with number j
+  pub above-step : {v w : ℕ} {r : Bool} → Numbers P R j v → r ≡ nodeFits limit P R rule s v → w ≡ cond r u (min u v)
+      → LeastAbove limit P R rule s (j - 1) w
+  above-step {v} {w} {r} n e is = by-test r yes-fits not-fits
+    where
+      above : (z : ℕ) → z < length P → j - 1 < postNumber P R z → (z ≡ v → ⊥) → j < postNumber P R z
+      above z l b ne =
+          let number = n .number in
+          let differ : postNumber P R z ≡ postNumber P R v → ⊥ = λ t. ne (numbering (x .tree) .once z v l (n .inside) t) in
+          omega arith
+
+      yes-fits : r ≡ true → LeastAbove limit P R rule s (j - 1) w
+      yes-fits t = let same : w ≡ u = is ∙ ap (λ b. cond b u (min u v)) t in record {
+        tree = x .tree;
+        most = omega (arith, x .most);
+        here = λ l. subst⁻¹ (λ k. nodeFits limit P R rule s k ≡ false) same (x .here (omega arith));
+        before = λ z m l b. by-eq z v
+            (λ q. subst⁻¹ (λ k. nodeFits limit P R rule s k ≡ true) q (sym e ∙ t))
+            (λ ne. x .before z (omega arith) l (above z l b ne));
+      }
+
+      not-fits : r ≡ false → LeastAbove limit P R rule s (j - 1) w
+      not-fits t = let smaller : w ≡ min u v = is ∙ ap (λ b. cond b u (min u v)) t in record {
+        tree = x .tree;
+        most = omega (arith, x .most);
+        here = λ l. by-eq w v
+            (λ q. subst⁻¹ (λ k. nodeFits limit P R rule s k ≡ false) q (sym e ∙ t))
+            (λ ne. let same : w ≡ u = omega arith in
+            subst⁻¹ (λ k. nodeFits limit P R rule s k ≡ false) same (x .here (omega arith)));
+        before = λ z m l b. x .before z (omega arith) l (above z l b (λ q. omega arith));
+      }
+
+  pub above-end : j ≤ 0 → u ≡ least (misfit limit P R rule s) (length P)
+  above-end h =
+      least-is (misfit limit P R rule s) (length P) u (x .most)
+      (λ k l. let inside : k < length P = omega (arith, x .most) in
+      ap not (x .before k l inside (omega (arith, numbering (x .tree) .from-1 k inside))))
+      (λ l. ap not (x .here l))

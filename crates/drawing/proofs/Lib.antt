@@ -1,5 +1,6 @@
 pub mod Conjunction
 pub mod Maximum
+pub mod Backward
 pub mod Laying
 pub mod Settling
 pub mod Fitting

@@ -5,6 +5,7 @@
 --   rootFits s             == the root has times 1 and place (0, 0)
 --   misfit limit .. v      == refusal 8 applies to v
 --   NumberedTree P R W     == P and R are an accepted table, and the work list W holds its post-order numbers
+--   Numbers P R j v        == v is the node with number j, other than the root
 --   Prepared L .. r        == the answer r is refusals 1 to 7 of a call on the drawing s; if none, the table is numbered
 --   Sized P R s W          == the lists of s are as long as the table, which is numbered
 --   Blank P R rule s W     == and a fresh drawing has places below 2^32
@@ -23,7 +24,7 @@ use Rattle.table.specs.declared.Limits.{Limits}
 use Rattle.table.specs.declared.Validity.{Validity}
 use Rattle.table.specs.declared.Validity.the-variants.{Accepted}
 use Rattle.table.specs.Numbering.{Numbered}
-use Rattle.table.specs.Table.{under, tableFault, Spared}
+use Rattle.table.specs.Table.{under, postNumber, tableFault, Spared}
 use Rattle.table.specs.Acceptance.{validity}
 use Rattle.table.specs.TableLaws.{Tree}
 use Rattle.slopes.specs.declared.Rule.{Rule}
@@ -49,6 +50,11 @@ pub record NumberedTree (P R W : List ℕ) : Type 0 where
   pub tree : Tree P R
   pub few : length P < 2 ^ 32
   pub numbers : Numbered P R W
+
+pub record Numbers (P R : List ℕ) (j v : ℕ) : Type 0 where
+  pub above : 0 < v
+  pub inside : v < length P
+  pub number : postNumber P R v ≡ j
 
 pub record Prepared (L : Limits) (P R : List ℕ) (s : Drawing) (W X : List ℕ) (r : Validity) : Type 0 where
   pub answer : r ≡ validity (tableFault L P R (lengthsFit P s) (length W))

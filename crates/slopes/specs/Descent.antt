@@ -37,7 +37,7 @@ Ends j t = j % 2 ^ suc t ≡ 2 ^ t
 -- Bits
 
 -- the lowest m + 1 bits are bit m and the lowest m
-bits-more : (j m : ℕ) → j % 2 ^ suc m ≡ bitOf j m * 2 ^ m + j % 2 ^ m
+pub bits-more : (j m : ℕ) → j % 2 ^ suc m ≡ bitOf j m * 2 ^ m + j % 2 ^ m
 bits-more j m = ap (λ k. j % 2 ^ k) (sym (one-add m)) ∙ mod-pow-add j 1 m
 
 -- the trailing zeros of a number above 0, written in w bits
@@ -55,7 +55,7 @@ trailing-ends (suc w) j h g = go (j % 2) refl (λ e. trailing-ends w (j / 2) (om
     go (suc b) e half = omega arith
 
 -- more of the lowest bits than the zeros that end the number are not all 0
-ends-positive : (j t m : ℕ) → Ends j t → t < m → 1 ≤ j % 2 ^ m
+pub ends-positive : (j t m : ℕ) → Ends j t → t < m → 1 ≤ j % 2 ^ m
 ends-positive j t m e h =
     let long : m - suc t + suc t ≡ m = omega arith in
     let low : j % 2 ^ m % 2 ^ suc t ≡ j % 2 ^ suc t = rw long at (mod-mod-pow j (m - suc t) (suc t)) in

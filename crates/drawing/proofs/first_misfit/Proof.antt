@@ -1,81 +1,40 @@
--- Every node below v fits.
-use Prim.Native.Nat.{_-_}
-use native.Mathlib.Omega.{arith}
-use lib.ListN.{length}
+-- The root by itself, then either order of the others.
+use borrow.Author.Needs.{needs}
 use borrow.Author.Tests.{not-true, not-false}
-use Rattle.drawing.specs.Drawing.{lent}
-use Rattle.drawing.proofs.Fitting.{Fitting, fitting-root, fitting-start, fitting-step, fitting-not, fitting-end}
+use mathlib.Core.Path.{sym, _∙_}
+use Rattle.drawing.proofs.Fitting.{misfit-root}
 use Rattle.drawing.proofs.first_misfit.Statement.{statement}
 use Rattle.drawing.proofs.first_misfit.Tie as tie
 
-abbrev Inv-loop : tie.InvT-loop
-Inv-loop limit rule parent rank times x y work n root v₀ v = Fitting limit parent rank rule (lent times x y) v
+abbrev called : tie.After-root-fits → tie.Start
+called c = c .before .before .before .before .before .before .before
 
-abbrev μ-loop : tie.MeasureT-loop
-μ-loop limit rule parent rank times x y work n root v₀ v = length parent - v
-
-root-fits-requires : tie.Need-root-fits-requires Inv-loop μ-loop
-root-fits-requires c κs = omega arith
-
-returns : tie.Need-returns Inv-loop μ-loop
+returns : tie.Need-returns
 returns c =
-    let at-root-fits = c .before in
-    let at-entry = at-root-fits .before .before .before .before .before .before .before in
-    fitting-root _ _ _ _ _ (at-entry .pre .numbered .tree .some) (at-root-fits .root-fits .ensures)
-    (not-true _ (c .if1 .taken))
+    let root = c .before in
+    misfit-root _ _ _ _ _ (called root .pre .numbered .tree .some) (root .root-fits .ensures) (not-true _ (c .if1 .taken))
 
-loop-holds : tie.Need-loop-holds Inv-loop μ-loop
-loop-holds c =
-    let at-root-fits = c .before in
-    let at-entry = at-root-fits .before .before .before .before .before .before .before in
-    fitting-start _ _ _ _ _ (at-entry .pre .numbered .tree .some) (at-root-fits .root-fits .ensures)
-    (not-false _ (c .if1 .left))
+misfit-by-node-requires : tie.Need-misfit-by-node-requires
+misfit-by-node-requires c κs =
+    let fits = c .before .before in
+    let root = fits .before in
+    (called root .pre, sym (root .root-fits .ensures) ∙ not-false _ (fits .if1 .left))
 
-node-fits-requires : tie.Need-node-fits-requires Inv-loop μ-loop
-node-fits-requires c κs =
-    let at-loop = c .before in
-    let at-entry = at-loop .before .before .before .before .before .before .before .before .before in
-    (at-entry .pre, omega arith, c .loop-test .taken)
-
-returns-2 : tie.Need-returns-2 Inv-loop μ-loop
-returns-2 c =
-    let at-node-fits = c .before in
-    let at-loop-test = at-node-fits .before in
-    let at-loop = at-loop-test .before in
-    fitting-not (at-loop .loop .inv) (at-loop-test .loop-test .taken) (at-node-fits .node-fits .ensures)
-    (not-true _ (c .if2 .taken))
-
-add-v : tie.Need-add-v Inv-loop μ-loop
-add-v c = omega arith
-
-loop-less : tie.Need-loop-less Inv-loop μ-loop
-loop-less c = omega arith
-
-loop-again : tie.Need-loop-again Inv-loop μ-loop
-loop-again c =
-    let at-node-fits = c .before in
-    let at-loop-test = at-node-fits .before in
-    let at-loop = at-loop-test .before in
-    fitting-step (at-loop .loop .inv) (at-loop-test .loop-test .taken) (at-node-fits .node-fits .ensures)
-    (not-false _ (c .if2 .left))
-
-returns-3 : tie.Need-returns-3 Inv-loop μ-loop
-returns-3 c =
-    let at-loop = c .before in
-    fitting-end (at-loop .loop .inv) (c .loop-test .left)
+misfit-by-number-requires : tie.Need-misfit-by-number-requires
+misfit-by-number-requires c κs =
+    let fits = c .before .before in
+    let root = fits .before in
+    (called root .pre, sym (root .root-fits .ensures) ∙ not-false _ (fits .if1 .left))
 
 pub first-misfit-spec : {M : Type 1} → statement M
 first-misfit-spec =
     tie.close
     (tie.spec
-    Inv-loop
-    μ-loop
-    root-fits-requires
+    (λ c κs. search needs)
     returns
-    loop-holds
-    node-fits-requires
-    returns-2
-    add-v
-    loop-less
-    loop-again
-    returns-3)
+    (λ c. search needs)
+    misfit-by-node-requires
+    (λ c. search needs)
+    misfit-by-number-requires
+    (λ c. search needs)
+    (λ c. search needs))

@@ -13,8 +13,8 @@ use Rattle.slopes.proofs.slope_at.Tie as tie
 enum-told : tie.Need-enum-told
 enum-told c = search needs
 
-cast-t5 : tie.Need-cast-t5
-cast-t5 c = search needs
+steep-requires : tie.Need-steep-requires
+steep-requires c κs = search needs
 
 enum-told-2 : tie.Need-enum-told-2
 enum-told-2 c = search needs
@@ -35,8 +35,10 @@ descend-requires c κs =
 returns : tie.Need-returns
 unfolding slopeAt
 returns c =
-    let start = c .before .before in
-    sym (ap (λ (rule : Rule). slopeAt rule (start .args .n) (start .args .j)) (c .enum-told .given .1))
+    let told = c .before in
+    let start = told .before .before in
+    let j = start .args .j in
+    c .steep .ensures ∙ sym (ap (λ (rule : Rule). slopeAt rule (start .args .n) j) (told .enum-told .given .1))
 
 returns-2 : tie.Need-returns-2
 unfolding slopeAt
@@ -54,7 +56,7 @@ slope-at-spec =
     tie.close
     (tie.spec
     enum-told
-    cast-t5
+    steep-requires
     enum-told-2
     levels-for-requires
     cast-descend

@@ -1,0 +1,77 @@
+-- Of the nodes with numbers above j the least that doesn't fit is kept.
+use borrow.Author.Needs.{needs}
+use native.Mathlib.Omega.{arith}
+use Rattle.drawing.specs.Drawing.{lent}
+use Rattle.drawing.proofs.Backward.{Backward, backward-start, backward-edge, backward-ready, backward-step}
+use Rattle.drawing.proofs.Fitting.{LeastAbove, above-start, above-step, above-end}
+use Rattle.drawing.proofs.misfit_by_number.Statement.{statement}
+use Rattle.drawing.proofs.misfit_by_number.Tie as tie
+
+abbrev Inv-loop : tie.InvT-loop
+Inv-loop limit rule parent rank times x y work n least₀ here₀ after₀ j₀ least here after j =
+    Backward parent rank rule work j here after × LeastAbove limit parent rank rule (lent times x y) j least
+
+abbrev μ-loop : tie.MeasureT-loop
+μ-loop limit rule parent rank times x y work n least₀ here₀ after₀ j₀ least here after j = j
+
+abbrev called : tie.In-loop Inv-loop μ-loop → tie.Start Inv-loop μ-loop
+called c = c .before .before .before .before .before .before .before .before .before .before
+
+loop-holds : tie.Need-loop-holds Inv-loop μ-loop
+loop-holds c =
+    let first = c .before in
+    let pre = first .before .before .before .before .before .before .before .pre in (
+      backward-start (pre .0 .numbered) (first .bordered-at .ensures) (c .bordered-at2 .ensures),
+      above-start (pre .0 .numbered .tree) (pre .1),
+    )
+
+node-at-requires : tie.Need-node-at-requires Inv-loop μ-loop
+node-at-requires c κs =
+    let pass = c .before .loop .inv .0 in
+    (pass .numbered, c .loop-test .taken, pass .low)
+
+node-fits-requires : tie.Need-node-fits-requires Inv-loop μ-loop
+node-fits-requires c κs =
+    let turn = c .before in
+    let inv = turn .before .loop .inv in
+    let node = c .node-at .ensures in
+    (called turn .pre .0, node .above, node .inside, backward-edge (inv .0) (turn .loop-test .taken) node)
+
+slope-before-requires : tie.Need-slope-before-requires Inv-loop μ-loop
+slope-before-requires c κs =
+    let turn = c .before .before .before in
+    backward-ready (turn .before .loop .inv .0) (turn .loop-test .taken)
+
+loop-again : tie.Need-loop-again Inv-loop μ-loop
+loop-again c =
+    let at-kept = c .before in
+    let at-node-fits = at-kept .before in
+    let at-node-at = at-node-fits .before in
+    let turn = at-node-at .before in
+    let inv = turn .before .loop .inv in (
+      backward-step (inv .0) (turn .loop-test .taken) (c .slope-before .ensures),
+      above-step (inv .1) (at-node-at .node-at .ensures) (at-node-fits .node-fits .ensures) (at-kept .kept .ensures),
+    )
+
+returns : tie.Need-returns Inv-loop μ-loop
+returns c = above-end (c .before .loop .inv .1) (c .loop-test .left)
+
+pub misfit-by-number-spec : {M : Type 1} → statement M
+misfit-by-number-spec =
+    tie.close
+    (tie.spec
+    Inv-loop
+    μ-loop
+    (λ c. omega arith)
+    (λ c κs. (omega arith, omega arith, omega arith))
+    (λ c κs. (omega arith, omega arith, omega arith))
+    (λ c. omega arith)
+    loop-holds
+    node-at-requires
+    node-fits-requires
+    (λ c κs. search needs)
+    slope-before-requires
+    (λ c. omega arith)
+    (λ c. omega arith)
+    loop-again
+    returns)
