@@ -164,19 +164,42 @@ impl Lists {
     }
 }
 
+/// What the trees look like. "shuffled" is a random tree whose lots are numbered at random, so that parents come after
+/// children too.
+const SHAPES: [&str; 5] = ["chain", "star", "random", "shuffled", "binary"];
+
+/// The same numbers in every run.
+struct Numbers(u64);
+
+impl Numbers {
+    fn below(&mut self, bound: usize) -> usize {
+        self.0 = self.0.wrapping_mul(6364136223846793005).wrapping_add(1442695040888963407);
+        (self.0 >> 33) as usize % bound
+    }
+}
+
+/// The lots 0 to n - 1 in another order, lot 0 first.
+fn shuffled(n: usize, numbers: &mut Numbers) -> Vec<usize> {
+    let mut order: Vec<usize> = (0..n).collect();
+    for v in (2..n).rev() {
+        order.swap(v, 1 + numbers.below(v));
+    }
+    order
+}
+
 fn lists(shape: &str, n: usize) -> Lists {
+    let mut numbers = Numbers(12345);
+    let name = if shape == "shuffled" { shuffled(n, &mut numbers) } else { (0..n).collect() };
     let (mut parent, mut rank, mut count) = (vec![0u32; n], vec![0u32; n], vec![0u32; n]);
-    let mut state = 12345u64;
     for v in 1..n {
-        state = state.wrapping_mul(6364136223846793005).wrapping_add(1442695040888963407);
         let p = match shape {
             "chain" => v - 1,
             "star" => 0,
             "binary" => (v - 1) / 2,
-            _ => (state >> 33) as usize % v,
+            _ => numbers.below(v),
         };
-        parent[v] = p as u32;
-        rank[v] = count[p];
+        parent[name[v]] = name[p] as u32;
+        rank[name[v]] = count[p];
         count[p] += 1;
     }
     let (times, x, y) = (vec![0; n], vec![0; n], vec![0; n]);
@@ -212,21 +235,71 @@ fn pair(
     [(a[a.len() / 2], b[b.len() / 2]), (a[0], b[0])]
 }
 
+/// The lines of the table, and what is said of them at the end.
+#[derive(Default)]
 struct Table {
-    worst: Vec<(f64, String)>,
+    /// the ratio to the C version, by medians or by the fastest runs, whichever is smaller
+    ratios: Vec<(f64, String)>,
+    /// the proved call's median, under each rule
+    medians: Vec<Median>,
 }
+
+struct Median {
+    call: &'static str,
+    shape: &'static str,
+    n: usize,
+    balanced: bool,
+    took: f64,
+}
+
+const RULES: [(&str, bool); 2] = [("steep", false), ("balanced", true)];
 
 impl Table {
     fn line(&mut self, call: &str, rule: &str, shape: &str, n: usize, [(a, b), (c, d)]: [(f64, f64); 2]) {
         let (ratio, least) = (a / b, c / d);
         println!("| {call} | {rule} | {shape} | {n} | {a:.1} | {b:.1} | {ratio:.2} | {least:.2} |");
-        self.worst.push((ratio.min(least), format!("{call} {rule} {shape} {n}")));
+        self.ratios.push((ratio.min(least), format!("{call} {rule} {shape} {n}")));
+    }
+
+    /// A line of a call that is made under both rules.
+    fn ruled(&mut self, call: &'static str, balanced: bool, shape: &'static str, n: usize, both: [(f64, f64); 2]) {
+        self.medians.push(Median { call, shape, n, balanced, took: both[0].0 });
+        self.line(call, RULES[usize::from(balanced)].0, shape, n, both);
+    }
+
+    /// How much more a balanced sheet costs than a steep one of the same tree, for each size.
+    fn balanced_over_steep(&self, n: usize) {
+        let of = |wanted: &Median| {
+            let steep = self
+                .medians
+                .iter()
+                .find(|m| (m.call, m.shape, m.n, m.balanced) == (wanted.call, wanted.shape, wanted.n, false));
+            wanted.took / steep.expect("both rules are timed").took
+        };
+        println!("\nbalanced over steep, {n} lots, by medians:");
+        for call in ["layout", "lengthen", "shorten", "direction"] {
+            let ratios: Vec<_> = self.medians.iter().filter(|m| m.balanced && m.call == call && m.n == n).collect();
+            let shown: Vec<_> = ratios.iter().map(|m| format!("{} {:.2}", m.shape, of(m))).collect();
+            println!("    {call}: {}", shown.join(", "));
+        }
+    }
+
+    fn worst(&mut self) {
+        self.ratios.sort_by(|a, b| b.0.total_cmp(&a.0));
+        let over = self.ratios.iter().filter(|w| w.0 > 1.10).count();
+        println!(
+            "\n{over} of {} above 1.10 times the C version, by medians and by the fastest runs:",
+            self.ratios.len()
+        );
+        for (ratio, what) in self.ratios.iter().take(8) {
+            println!("    {ratio:.2}  {what}");
+        }
     }
 }
 
 /// A lot whose edge can be made longer by 1, with as many lots below as may be.
 fn stretchable(l: &mut Lists, balanced: bool) -> u32 {
-    let mut lot = 1;
+    let mut lot = l.parent[1..].iter().position(|&p| p == 0).map_or(1, |v| v as u32 + 1);
     loop {
         plain::lengthen(l, balanced, lot);
         if l.reply[0] == 1 {
@@ -237,66 +310,64 @@ fn stretchable(l: &mut Lists, balanced: bool) -> u32 {
     }
 }
 
+fn nothing(_: &mut Lists) {}
+
+/// The calls that lay out and stretch, and the direction, under one rule.
+fn ruled_calls(table: &mut Table, samples: usize, l: &mut Lists, shape: &'static str, b: bool) {
+    let n = l.lots();
+    let (u, v) = (n as u32 - 1, n as u32 / 2);
+    let both = pair(samples, l, &|l| proved::layout(l, b), &|l| plain::layout(l, b), &nothing);
+    table.ruled("layout", b, shape, n, both);
+    let lot = stretchable(l, b);
+    let (longer, shorter) = (|l: &mut Lists| plain::lengthen(l, b, lot), |l: &mut Lists| plain::shorten(l, b, lot));
+    let both = pair(samples, l, &|l| proved::lengthen(l, b, lot), &longer, &shorter);
+    table.ruled("lengthen", b, shape, n, both);
+    longer(l);
+    let both = pair(samples, l, &|l| proved::shorten(l, b, lot), &shorter, &longer);
+    table.ruled("shorten", b, shape, n, both);
+    plain::layout(l, b);
+    let both = pair(samples, l, &|l| proved::direction(l, b, u, v), &|l| plain::direction(l, b, u, v), &nothing);
+    table.ruled("direction", b, shape, n, both);
+}
+
+fn tree_files(table: &mut Table, samples: usize, l: &mut Lists, shape: &'static str) {
+    let both = pair(samples, l, &proved::write_tree, &plain::write_tree, &nothing);
+    table.line("write_tree", "", shape, l.lots(), both);
+    let both = pair(samples, l, &proved::read_tree, &plain::read_tree, &nothing);
+    table.line("read_tree", "", shape, l.lots(), both);
+}
+
+fn checks(table: &mut Table, samples: usize, shape: &'static str, n: usize) {
+    let mut l = lists(shape, n);
+    for (rule, b) in RULES {
+        plain::layout(&mut l, b);
+        let both = pair((samples / 2).max(3), &mut l, &proved::check, &plain::check, &nothing);
+        table.line("check", rule, shape, n, both);
+    }
+}
+
 fn main() {
     let samples: usize = std::env::args().nth(1).map_or(41, |s| s.parse().expect("a number of samples"));
-    let mut table = Table { worst: Vec::new() };
+    let mut table = Table::default();
     println!("| Call | Rule | Shape | n | proved, µs | C, µs | ratio | of the fastest |");
     println!("|---|---|---|---|---|---|---|---|");
-    let nothing: &dyn Fn(&mut Lists) = &|_| {};
-    for n in [1024, 65_536] {
-        let samples = if n == 1024 { 20 * samples } else { samples };
-        for shape in ["chain", "star", "random", "binary"] {
+    let sizes = [(1024, 20 * samples), (65_536, samples)];
+    for (n, samples) in sizes {
+        for shape in SHAPES {
             let mut l = lists(shape, n);
-            let m = n as u32;
-            for (rule, b) in [("steep", false), ("balanced", true)] {
-                let both = pair(samples, &mut l, &|l| proved::layout(l, b), &|l| plain::layout(l, b), nothing);
-                table.line("layout", rule, shape, n, both);
-                let lot = stretchable(&mut l, b);
-                let both =
-                    pair(samples, &mut l, &|l| proved::lengthen(l, b, lot), &|l| plain::lengthen(l, b, lot), &|l| {
-                        plain::shorten(l, b, lot)
-                    });
-                table.line("lengthen", rule, shape, n, both);
-                plain::lengthen(&mut l, b, lot);
-                let both =
-                    pair(samples, &mut l, &|l| proved::shorten(l, b, lot), &|l| plain::shorten(l, b, lot), &|l| {
-                        plain::lengthen(l, b, lot)
-                    });
-                table.line("shorten", rule, shape, n, both);
-                plain::layout(&mut l, b);
-                let both = pair(
-                    samples,
-                    &mut l,
-                    &|l| proved::direction(l, b, m - 1, m / 2),
-                    &|l| plain::direction(l, b, m - 1, m / 2),
-                    nothing,
-                );
-                table.line("direction", rule, shape, n, both);
+            for (_, b) in RULES {
+                ruled_calls(&mut table, samples, &mut l, shape, b);
             }
-            let both = pair(samples, &mut l, &proved::write_tree, &plain::write_tree, nothing);
-            table.line("write_tree", "", shape, n, both);
-            let both = pair(samples, &mut l, &proved::read_tree, &plain::read_tree, nothing);
-            table.line("read_tree", "", shape, n, both);
+            tree_files(&mut table, samples, &mut l, shape);
         }
     }
     for n in [1024, 4096] {
-        for shape in ["chain", "star", "random", "binary"] {
-            let mut l = lists(shape, n);
-            for (rule, b) in [("steep", false), ("balanced", true)] {
-                plain::layout(&mut l, b);
-                let both = pair((samples / 2).max(3), &mut l, &proved::check, &plain::check, nothing);
-                table.line("check", rule, shape, n, both);
-            }
+        for shape in SHAPES {
+            checks(&mut table, samples, shape, n);
         }
     }
-    table.worst.sort_by(|a, b| b.0.total_cmp(&a.0));
-    let over: Vec<_> = table.worst.iter().filter(|w| w.0 > 1.10).collect();
-    println!(
-        "\n{} of {} above 1.10 times the C version, by medians and by the fastest runs:",
-        over.len(),
-        table.worst.len()
-    );
-    for (ratio, what) in table.worst.iter().take(8) {
-        println!("    {ratio:.2}  {what}");
+    for (n, _) in sizes {
+        table.balanced_over_steep(n);
     }
+    table.worst();
 }
