@@ -1,8 +1,8 @@
 -- The test of refusal 8, node by node: the least node that does not fit.
-use mathlib.Core.Bool.{Bool, true, false, cond, not, _&&_}
+use mathlib.Core.Bool.{Bool, true, false, not, _&&_}
 use mathlib.Core.List.{List}
-use mathlib.Core.Path.{_≡_, sym, ap, ap₂, subst⁻¹, _∙_}
-use Prim.Native.Nat.{ℕ, _+_, _-_, _*_, _^_, _≤_, _<_, min}
+use mathlib.Core.Path.{_≡_, refl, sym, ap, ap₂, subst⁻¹, _∙_}
+use Prim.Native.Nat.{ℕ, _+_, _-_, _*_, _^_, _≤_, _<_}
 use native.Mathlib.Nat.{mul-le-mul}
 use native.Mathlib.Omega.{arith}
 use lib.Dec.{leb, eqb}
@@ -10,7 +10,7 @@ use lib.ListN.{length, getD}
 use borrow.Author.Tests.{lt-leb, le-leb, eqb-true}
 use Rattle.laws.specs.Search.{least}
 use Rattle.laws.specs.SearchLaws.{least-is}
-use Rattle.laws.specs.Tests.{by-test, by-eq}
+use Rattle.laws.specs.Tests.{by-test, by-eq, differ}
 use Rattle.table.specs.Numbering.{numbering, root-last}
 use Rattle.table.specs.Table.{parent, postNumber}
 use Rattle.table.specs.TableLaws.{Tree}
@@ -19,7 +19,7 @@ use Rattle.slopes.specs.declared.Slope.{Slope}
 use Rattle.slopes.specs.Slopes.{acrossOf, upOf, slopeAt, edge}
 use Rattle.drawing.specs.Drawing.{Drawing, placed, nodeFits}
 use Rattle.drawing.specs.DrawingLaws.{bothPlaced, placed-root, placed-node, fits-root, fits-node}
-use Rattle.drawing.specs.Parts.{NumberedTree, Numbers, rootFits}
+use Rattle.drawing.specs.Parts.{NumberedTree, Numbers, AllFit, rootFits}
 use Rattle.drawing.proofs.Conjunction.{first-fails, first-holds}
 
 ------------------------------------------------------------------------
@@ -149,63 +149,49 @@ module _ {limit : ℕ} {P R : List ℕ} {rule : Rule} {s : Drawing} {v : ℕ} (x
       least-is (misfit limit P R rule s) (length P) (length P) (omega arith) (λ k l. ap not (x .before k (omega arith)))
       (λ l. absurd (omega arith))
 
--- by number, the last first: of the nodes with numbers above j, u is the least that doesn't fit, or n
-pub record LeastAbove (limit : ℕ) (P R : List ℕ) (rule : Rule) (s : Drawing) (j u : ℕ) : Type 0 where
+-- by number, the last first: every node with a number above j fits
+pub record FitAbove (limit : ℕ) (P R : List ℕ) (rule : Rule) (s : Drawing) (j : ℕ) : Type 0 where
   pub tree : Tree P R
-  pub most : u ≤ length P
-  pub here : u < length P → nodeFits limit P R rule s u ≡ false
-  pub before : (z : ℕ) → z < u → z < length P → j < postNumber P R z → nodeFits limit P R rule s z ≡ true
+  pub after : (z : ℕ) → z < length P → j < postNumber P R z → nodeFits limit P R rule s z ≡ true
 
 -- the root has the last number
 pub above-start : {limit : ℕ} {P R : List ℕ} {rule : Rule} {s : Drawing} → Tree P R → rootFits s ≡ true
-    → LeastAbove limit P R rule s (length P - 1) (length P)
+    → FitAbove limit P R rule s (length P - 1)
 above-start {limit} {P} {R} {rule} {s} tree root = record {
   tree = tree;
-  most = omega arith;
-  here = λ l. absurd (omega arith);
-  before = λ z m l b.
+  after = λ z l b.
       let last : postNumber P R z ≡ postNumber P R 0 = omega (arith, numbering tree .to-n z l, root-last tree) in
       subst⁻¹ (λ k. nodeFits limit P R rule s k ≡ true) (numbering tree .once z 0 l (tree .some) last)
       (root-test limit P R rule s ∙ root);
 }
 
-module _ {limit : ℕ} {P R : List ℕ} {rule : Rule} {s : Drawing} {j u : ℕ}
-    (x : LeastAbove limit P R rule s j u) where
-  -- a node with number j
-  pub above-step : {v w : ℕ} {r : Bool} → Numbers P R j v → r ≡ nodeFits limit P R rule s v → w ≡ cond r u (min u v)
-      → LeastAbove limit P R rule s (j - 1) w
-  above-step {v} {w} {r} n e is = by-test r yes-fits not-fits
-    where
-      above : (z : ℕ) → z < length P → j - 1 < postNumber P R z → (z ≡ v → ⊥) → j < postNumber P R z
-      above z l b ne =
-          let number = n .number in
-          let differ : postNumber P R z ≡ postNumber P R v → ⊥ = λ t. ne (numbering (x .tree) .once z v l (n .inside) t) in
-          omega arith
+-- the node with number j
+pub above-not : {limit : ℕ} {P R : List ℕ} {rule : Rule} {s : Drawing} {j v : ℕ} {r : Bool} → Numbers P R j v
+    → r ≡ nodeFits limit P R rule s v → r ≡ false → AllFit limit P R rule s false
+above-not {v = v} n e f = record { yes = λ t. absurd (differ t refl); no = λ t. (v, n .inside, sym e ∙ f) }
 
-      yes-fits : r ≡ true → LeastAbove limit P R rule s (j - 1) w
-      yes-fits t = let same : w ≡ u = is ∙ ap (λ b. cond b u (min u v)) t in record {
-        tree = x .tree;
-        most = omega (arith, x .most);
-        here = λ l. subst⁻¹ (λ k. nodeFits limit P R rule s k ≡ false) same (x .here (omega arith));
-        before = λ z m l b. by-eq z v
-            (λ q. subst⁻¹ (λ k. nodeFits limit P R rule s k ≡ true) q (sym e ∙ t))
-            (λ ne. x .before z (omega arith) l (above z l b ne));
-      }
+module _ {limit : ℕ} {P R : List ℕ} {rule : Rule} {s : Drawing} {j : ℕ} (x : FitAbove limit P R rule s j) where
+  pub above-step : {v : ℕ} {r : Bool} → Numbers P R j v → r ≡ nodeFits limit P R rule s v → r ≡ true
+      → FitAbove limit P R rule s (j - 1)
+  above-step {v} n e t = record {
+    tree = x .tree;
+    after = λ z l b. by-eq z v (λ q. subst⁻¹ (λ k. nodeFits limit P R rule s k ≡ true) q (sym e ∙ t))
+        (λ ne.
+        let differs : postNumber P R z ≡ postNumber P R v → ⊥ =
+        λ q. ne (numbering (x .tree) .once z v l (n .inside) q) in
+        let number = n .number in
+        x .after z l (omega arith));
+  }
 
-      not-fits : r ≡ false → LeastAbove limit P R rule s (j - 1) w
-      not-fits t = let smaller : w ≡ min u v = is ∙ ap (λ b. cond b u (min u v)) t in record {
-        tree = x .tree;
-        most = omega (arith, x .most);
-        here = λ l. by-eq w v
-            (λ q. subst⁻¹ (λ k. nodeFits limit P R rule s k ≡ false) q (sym e ∙ t))
-            (λ ne. let same : w ≡ u = omega arith in
-            subst⁻¹ (λ k. nodeFits limit P R rule s k ≡ false) same (x .here (omega arith)));
-        before = λ z m l b. x .before z (omega arith) l (above z l b (λ q. omega arith));
-      }
+  pub above-end : j ≤ 0 → AllFit limit P R rule s true
+  above-end h = record {
+    yes = λ t z l. x .after z l (omega (arith, numbering (x .tree) .from-1 z l));
+    no = λ t. absurd (differ refl t);
+  }
 
-  pub above-end : j ≤ 0 → u ≡ least (misfit limit P R rule s) (length P)
-  above-end h =
-      least-is (misfit limit P R rule s) (length P) u (x .most)
-      (λ k l. let inside : k < length P = omega (arith, x .most) in
-      ap not (x .before k l inside (omega (arith, numbering (x .tree) .from-1 k inside))))
-      (λ l. ap not (x .here l))
+-- where all fit, none is the least that doesn't
+pub none-misfit : {limit : ℕ} {P R : List ℕ} {rule : Rule} {s : Drawing} {r : Bool} → AllFit limit P R rule s r
+    → r ≡ true → length P ≡ least (misfit limit P R rule s) (length P)
+none-misfit {limit} {P} {R} {rule} {s} x t =
+    least-is (misfit limit P R rule s) (length P) (length P) (omega arith) (λ k l. ap not (x .yes t k l))
+    (λ l. absurd (omega arith))

@@ -9,6 +9,7 @@
 --   Prepared L .. r        == the answer r is refusals 1 to 7 of a call on the drawing s; if none, the table is numbered
 --   Sized P R s W          == the lists of s are as long as the table, which is numbered
 --   Blank P R rule s W     == and a fresh drawing has places below 2^32
+--   AllFit limit .. r      == r says whether refusal 8 applies to no node
 --   Checked L .. r         == the answer r is refusals 1 to 10 of a call on the drawing s
 --   Passes limit P X v d r == r says whether a place of v's subtree is beyond the limit when it is moved on by d
 --   Movable P X v d longer == v's subtree can be moved on, or back, by d
@@ -71,6 +72,10 @@ pub record Blank (P R : List ℕ) (rule : Rule) (s : Drawing) (W : List ℕ) : T
   pub sized : Sized P R s W
   pub wide : acrossBound rule (length P) < 2 ^ 32
   pub tall : upBound rule (length P) < 2 ^ 32
+
+pub record AllFit (limit : ℕ) (P R : List ℕ) (rule : Rule) (s : Drawing) (r : Bool) : Type 0 where
+  pub yes : r ≡ true → (v : ℕ) → v < length P → nodeFits limit P R rule s v ≡ true
+  pub no : r ≡ false → (v : ℕ) × (v < length P) × (nodeFits limit P R rule s v ≡ false)
 
 pub record Checked (L : Limits) (P R : List ℕ) (rule : Rule) (s : Drawing) (W : List ℕ) (v : ℕ) (X : List ℕ)
     (r : Validity) : Type 0 where

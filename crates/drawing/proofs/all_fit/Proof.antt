@@ -1,18 +1,18 @@
--- Of the nodes with numbers above j the least that doesn't fit is kept.
-use borrow.Author.Needs.{needs}
+-- Every node with a number above j fits.
 use native.Mathlib.Omega.{arith}
+use borrow.Author.Tests.{not-true, not-false}
 use Rattle.drawing.specs.Drawing.{lent}
 use Rattle.drawing.proofs.Backward.{Backward, backward-start, backward-edge, backward-ready, backward-step}
-use Rattle.drawing.proofs.Fitting.{LeastAbove, above-start, above-step, above-end}
-use Rattle.drawing.proofs.misfit_by_number.Statement.{statement}
-use Rattle.drawing.proofs.misfit_by_number.Tie as tie
+use Rattle.drawing.proofs.Fitting.{FitAbove, above-start, above-step, above-not, above-end}
+use Rattle.drawing.proofs.all_fit.Statement.{statement}
+use Rattle.drawing.proofs.all_fit.Tie as tie
 
 abbrev Inv-loop : tie.InvT-loop
-Inv-loop limit rule parent rank times x y work n least₀ here₀ after₀ j₀ least here after j =
-    Backward parent rank rule work j here after × LeastAbove limit parent rank rule (lent times x y) j least
+Inv-loop limit rule parent rank times x y work n here₀ after₀ j₀ here after j =
+    Backward parent rank rule work j here after × FitAbove limit parent rank rule (lent times x y) j
 
 abbrev μ-loop : tie.MeasureT-loop
-μ-loop limit rule parent rank times x y work n least₀ here₀ after₀ j₀ least here after j = j
+μ-loop limit rule parent rank times x y work n here₀ after₀ j₀ here after j = j
 
 abbrev called : tie.In-loop Inv-loop μ-loop → tie.Start Inv-loop μ-loop
 called c = c .before .before .before .before .before .before .before .before .before .before
@@ -44,20 +44,25 @@ slope-before-requires c κs =
 
 loop-again : tie.Need-loop-again Inv-loop μ-loop
 loop-again c =
-    let at-kept = c .before in
-    let at-node-fits = at-kept .before in
-    let at-node-at = at-node-fits .before in
-    let turn = at-node-at .before in
+    let fits = c .before in
+    let tested = fits .before in
+    let node = tested .before in
+    let turn = node .before in
     let inv = turn .before .loop .inv in (
       backward-step (inv .0) (turn .loop-test .taken) (c .slope-before .ensures),
-      above-step (inv .1) (at-node-at .node-at .ensures) (at-node-fits .node-fits .ensures) (at-kept .kept .ensures),
+      above-step (inv .1) (node .node-at .ensures) (tested .node-fits .ensures) (not-false _ (fits .if1 .left)),
     )
 
 returns : tie.Need-returns Inv-loop μ-loop
-returns c = above-end (c .before .loop .inv .1) (c .loop-test .left)
+returns c =
+    let tested = c .before in
+    above-not (tested .before .node-at .ensures) (tested .node-fits .ensures) (not-true _ (c .if1 .taken))
 
-pub misfit-by-number-spec : {M : Type 1} → statement M
-misfit-by-number-spec =
+returns-2 : tie.Need-returns-2 Inv-loop μ-loop
+returns-2 c = above-end (c .before .loop .inv .1) (c .loop-test .left)
+
+pub all-fit-spec : {M : Type 1} → statement M
+all-fit-spec =
     tie.close
     (tie.spec
     Inv-loop
@@ -69,9 +74,9 @@ misfit-by-number-spec =
     loop-holds
     node-at-requires
     node-fits-requires
-    (λ c κs. search needs)
+    returns
     slope-before-requires
     (λ c. omega arith)
     (λ c. omega arith)
     loop-again
-    returns)
+    returns-2)
