@@ -24,7 +24,7 @@ module _ {P R W : List ℕ} (ordered : Ordered P R W) {u v : ℕ} (apart : Apart
     steps = 0;
     at = climb-zero P u;
     below =
-        let some = rise-some (ordered .tree) u v (apart .pair .first) (apart .pair .second) (apart .not-over) in
+        let some = rise-some (ordered .numbered .tree) u v (apart .pair .first) (apart .pair .second) (apart .not-over) in
         omega arith;
   }
 
@@ -32,22 +32,22 @@ module _ {P R W : List ℕ} (ordered : Ordered P R W) {u v : ℕ} (apart : Apart
     pub ascending-inside : z < length P
     ascending-inside =
         subst (λ (w : ℕ). w < length P) (a .at)
-        (climb-inside P (ordered .tree .inside) (a .steps) u (apart .pair .first))
+        (climb-inside P (ordered .numbered .tree .inside) (a .steps) u (apart .pair .first))
 
     -- p is z's parent
     module _ {p : ℕ} (up : p ≡ parent P z) where
       pub ascending-pair : Pair P p v
       ascending-pair = record {
-        first = subst⁻¹ (λ (w : ℕ). w < length P) up (ordered .tree .inside z ascending-inside);
+        first = subst⁻¹ (λ (w : ℕ). w < length P) up (ordered .numbered .tree .inside z ascending-inside);
         second = apart .pair .second;
       }
 
       -- each step leads nearer to the root
       pub ascending-less : depth P p < depth P z
       ascending-less =
-          let way = rise-way (ordered .tree) u v (a .steps) (apart .pair .second) (a .below) in
+          let way = rise-way (ordered .numbered .tree) u v (a .steps) (apart .pair .second) (a .below) in
           let node = subst (λ (w : ℕ). 0 < w) (a .at) way in
-          omega (arith, depth-parent (ordered .tree) z node ascending-inside, ap (depth P) up)
+          omega (arith, depth-parent (ordered .numbered .tree) z node ascending-inside, ap (depth P) up)
 
       next : climb P (suc (a .steps)) u ≡ p
       unfolding climb
@@ -59,13 +59,13 @@ module _ {P R W : List ℕ} (ordered : Ordered P R W) {u v : ℕ} (apart : Apart
         steps = suc (a .steps);
         at = next;
         below = by-eq (suc (a .steps)) (rise P u v)
-            (λ e. absurd (differ (rise-common (ordered .tree) u v (apart .pair .first) (apart .pair .second))
+            (λ e. absurd (differ (rise-common (ordered .numbered .tree) u v (apart .pair .first) (apart .pair .second))
             (subst⁻¹ (λ (w : ℕ). under P w v ≡ false) (ap (λ (k : ℕ). climb P k u) (sym e) ∙ next) f)))
             (λ ne. let b = a .below in omega arith);
       }
 
       pub ascending-end : under P p v ≡ true → z ≡ climb P (rise P u v - 1) u
       ascending-end t =
-          let low = rise-least (ordered .tree) u v (suc (a .steps)) (subst⁻¹ (λ (w : ℕ). under P w v ≡ true) next t) in
+          let low = rise-least (ordered .numbered .tree) u v (suc (a .steps)) (subst⁻¹ (λ (w : ℕ). under P w v ≡ true) next t) in
           let b = a .below in
           sym (a .at) ∙ ap (λ (k : ℕ). climb P k u) (omega arith)

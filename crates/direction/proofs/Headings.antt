@@ -37,11 +37,11 @@ module _ {P R W : List ℕ} (ordered : Ordered P R W) where
   edge-up : {u v p : ℕ} → Pair P u v → under P u v ≡ false → p ≡ climb P (rise P u v - 1) u
       → (0 < u) × (0 < p) × (p < length P)
   edge-up {u} {v} {p} pair f at =
-      let some = rise-some (ordered .tree) u v (pair .first) (pair .second) f in
-      let way = rise-way (ordered .tree) u v in (
+      let some = rise-some (ordered .numbered .tree) u v (pair .first) (pair .second) f in
+      let way = rise-way (ordered .numbered .tree) u v in (
         subst (λ (z : ℕ). 0 < z) (climb-zero P u) (way 0 (pair .second) (omega arith)),
         subst⁻¹ (λ (z : ℕ). 0 < z) at (way (rise P u v - 1) (pair .second) (omega arith)),
-        subst⁻¹ (λ (z : ℕ). z < length P) at (climb-inside P (ordered .tree .inside) (rise P u v - 1) u (pair .first)),
+        subst⁻¹ (λ (z : ℕ). z < length P) at (climb-inside P (ordered .numbered .tree .inside) (rise P u v - 1) u (pair .first)),
       )
 
   -- two tests tell whether v is in u's subtree, and u in v's
@@ -49,16 +49,16 @@ module _ {P R W : List ℕ} (ordered : Ordered P R W) where
     pub heading-down : (s : ℕ → Slope) → over ≡ true
         → Along (pos 1) (pos 1) ≡ heading P R s u v (rise P u v) (rise P v u)
     unfolding heading
-    heading-down s t = rw (rise-zero (ordered .tree) u v (pair .first) (pair .second) (sym over-is ∙ t)) refl
+    heading-down s t = rw (rise-zero (ordered .numbered .tree) u v (pair .first) (pair .second) (sym over-is ∙ t)) refl
 
     module _ (not-over : over ≡ false) {below : Bool} (below-is : below ≡ under P v u) where
       up : (i : ℕ) × (rise P u v ≡ suc i)
-      up = rise-some (ordered .tree) u v (pair .first) (pair .second) (sym over-is ∙ not-over)
+      up = rise-some (ordered .numbered .tree) u v (pair .first) (pair .second) (sym over-is ∙ not-over)
 
       pub heading-up : (s : ℕ → Slope) → below ≡ true
           → Along (negsuc 0) (negsuc 0) ≡ heading P R s u v (rise P u v) (rise P v u)
       unfolding heading
-      heading-up s t = rw (up .1, rise-zero (ordered .tree) v u (pair .second) (pair .first) (sym below-is ∙ t)) refl
+      heading-up s t = rw (up .1, rise-zero (ordered .numbered .tree) v u (pair .second) (pair .first) (sym below-is ∙ t)) refl
 
       module _ (not-below : below ≡ false) {p q : ℕ}
           (at-p : p ≡ climb P (rise P u v - 1) u) (at-q : q ≡ climb P (rise P v u - 1) v) where
@@ -74,7 +74,7 @@ module _ {P R W : List ℕ} (ordered : Ordered P R W) where
             → r ≡ heading P R s u v (rise P u v) (rise P v u)
         unfolding heading
         heading-side s er =
-            let down = rise-some (ordered .tree) v u (pair .second) (pair .first) (sym below-is ∙ not-below) in
+            let down = rise-some (ordered .numbered .tree) v u (pair .second) (pair .first) (sym below-is ∙ not-below) in
             let steps-p : rise P u v - 1 ≡ up .0 = omega (arith, up .1) in
             let steps-q : rise P v u - 1 ≡ down .0 = omega arith in
             rw (up .1, down .1) (er ∙ ap₂ (λ (p q : ℕ). sideways R s u v p q)

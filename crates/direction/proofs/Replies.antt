@@ -9,7 +9,7 @@ use lib.Dec.{leb, eqb}
 use lib.ListN.{length}
 use borrow.Author.Tests.{le-leb, lt-leb, eq-eqb, ne-eqb}
 use Rattle.laws.specs.Refusals.{some-not-none, orElse-first, orElse-second, orElse-none, refuse-yes, refuse-no}
-use Rattle.laws.specs.Search.{Refusal, refuse}
+use Rattle.laws.specs.Search.{Refusal, refuse, refusedOr}
 use Rattle.laws.specs.Tests.{either-first, either-second, neither-is}
 use Rattle.table.specs.declared.Limits.{Limits}
 use Rattle.table.specs.declared.Validity.{Validity}
@@ -20,7 +20,7 @@ use Rattle.table.specs.Work.{Validated, Ready}
 use Rattle.slopes.specs.declared.Rule.{Rule}
 use Rattle.direction.specs.declared.Heading.{Heading}
 use Rattle.direction.specs.declared.Heading.the-variants.{Refused}
-use Rattle.direction.specs.Direction.{course, pairFault, reply, direction, Directed}
+use Rattle.direction.specs.Direction.{course, pairFault, direction, Directed}
 use Rattle.direction.specs.Ordered.{Answered}
 
 ------------------------------------------------------------------------
@@ -28,16 +28,16 @@ use Rattle.direction.specs.Ordered.{Answered}
 
 module _ (P R : List ℕ) (rule : Rule) (u v : ℕ) where
   answer-by : (f : Option Refusal) → pairFault (length P) u v ≡ f
-      → {r : Heading} → r ≡ reply f (course P R rule u v) → Answered P R rule u v r
-  answer-by f e q = record { answer = q ∙ ap (λ (f : Option Refusal). reply f (course P R rule u v)) (sym e) }
+      → {r : Heading} → r ≡ refusedOr Refused f (course P R rule u v) → Answered P R rule u v r
+  answer-by f e q = record { answer = q ∙ ap (λ (f : Option Refusal). refusedOr Refused f (course P R rule u v)) (sym e) }
 
   pub no-first : length P ≤ u → Answered P R rule u v (Refused 9 0)
-  unfolding pairFault reply
+  unfolding pairFault
   no-first h =
       answer-by _ (orElse-first _ _ (refuse-yes _ 9 0 (either-first (leb (length P) u) _ (le-leb _ u h)))) refl
 
   pub no-second : length P ≤ v → Answered P R rule u v (Refused 9 0)
-  unfolding pairFault reply
+  unfolding pairFault
   no-second h =
       answer-by _ (orElse-first _ _ (refuse-yes _ 9 0 (either-second (leb (length P) u) _ (le-leb _ v h)))) refl
 
@@ -47,11 +47,9 @@ module _ (P R : List ℕ) (rule : Rule) (u v : ℕ) where
     both-nodes = orElse-second _ _ (refuse-no _ 9 0 (neither-is (lt-leb (length P) u lu) (lt-leb (length P) v lv)))
 
     pub one-node : u ≡ v → Answered P R rule u v (Refused 13 0)
-    unfolding reply
     one-node e = answer-by _ (both-nodes ∙ refuse-yes _ 13 0 (eq-eqb u v e)) refl
 
     pub two-nodes : (u ≡ v → ⊥) → {r : Heading} → r ≡ course P R rule u v → Answered P R rule u v r
-    unfolding reply
     two-nodes ne e = answer-by _ (both-nodes ∙ refuse-no _ 13 0 (ne-eqb u v ne)) e
 
 ------------------------------------------------------------------------
@@ -63,12 +61,13 @@ module _ (P R : List ℕ) (rule : Rule) (u v : ℕ) {L : Limits} (is-large : L �
   validated = subst (λ (l : Limits). Validated l P R true W X r) is-large given
 
   pub table-refused : (k z : ℕ) → r ≡ Invalid k z → Directed large P R rule W X u v (Refused k z)
-  unfolding direction reply
+  unfolding direction
   table-refused k z e = record {
-    answer = ap (λ f. reply f (course P R rule u v))
+    says = ap (λ f. refusedOr Refused f (course P R rule u v))
         (sym (orElse-first _ (pairFault (length P) u v)
         (validity-refused (tableFault large P R true (length W)) k z (sym (validated .answer) ∙ e))));
     spared = validated .spared;
+    long = validated .kept .long;
   }
 
   module _ (e : r ≡ Accepted) where
@@ -88,10 +87,12 @@ module _ (P R : List ℕ) (rule : Rule) (u v : ℕ) {L : Limits} (is-large : L �
         )
 
     -- whatever is left in the work list then
-    pub table-accepted : (Y : List ℕ) {a : Heading} → Answered P R rule u v a → Directed large P R rule W Y u v a
+    pub table-accepted : (Y : List ℕ) {a : Heading} → length Y ≡ length W → Answered P R rule u v a
+        → Directed large P R rule W Y u v a
     unfolding direction tableFault
-    table-accepted Y {a} q = record {
-      answer = q .answer ∙ ap (λ f. reply f (course P R rule u v)) (sym (orElse-second _ _ no-fault));
+    table-accepted Y {a} same q = record {
+      says = q .answer ∙ ap (λ f. refusedOr Refused f (course P R rule u v)) (sym (orElse-second _ _ no-fault));
       spared = λ f s. absurd (some-not-none (sym s
           ∙ orElse-none (shapeFault large P R true (length W)) (treeFault P R) no-fault .0));
+      long = same;
     }

@@ -9,18 +9,18 @@
 --   course P R rule u v      == the direction from u to v under the rule
 --   pairFault n u v          == refusals 9 and 13
 --   direction L ..           == the call: refusals 1 to 7 at the limits L, then these, or the direction
---   Directed ..              == what the call answers, and that it leaves the work list alone on refusals 1, 2 and 3
+--   Directed ..              == the call's contract
 use mathlib.Core.Bool.{true, cond, _||_}
 use mathlib.Core.List.{List}
-use mathlib.Core.Option.{Option, none, some}
+use mathlib.Core.Option.{Option}
 use mathlib.Core.Path.{_≡_}
 use Prim.Native.Nat.{ℕ, zero, suc}
 use lib.Dec.{ltb, leb, eqb}
 use lib.IntN.{pos, negℤ}
 use lib.ListN.{length}
-use Rattle.laws.specs.Search.{Refusal, refuse, _orElse_}
+use Rattle.laws.specs.Search.{Refusal, refuse, _orElse_, refusedOr}
 use Rattle.table.specs.declared.Limits.{Limits}
-use Rattle.table.specs.Table.{rank, climb, rise, tableFault, Spared}
+use Rattle.table.specs.Table.{rank, climb, rise, shapeFault, tableFault, Called}
 use Rattle.slopes.specs.declared.Rule.{Rule}
 use Rattle.slopes.specs.declared.Slope.{Slope}
 use Rattle.slopes.specs.Slopes.{_⊕_, edge}
@@ -53,15 +53,12 @@ course P R rule u v = heading P R (edge P R rule) u v (rise P u v) (rise P v u)
 unfoldable pub pairFault : ℕ → ℕ → ℕ → Option Refusal
 pairFault n u v = refuse (leb n u || leb n v) 9 0 orElse refuse (eqb u v) 13 0
 
-unfoldable pub reply : Option Refusal → Heading → Heading
-reply none a = a
-reply (some r) a = Refused (r .number) (r .node)
-
 -- work: the length of the work list, whose contents don't matter
 unfoldable pub direction : Limits → List ℕ → List ℕ → Rule → ℕ → ℕ → ℕ → Heading
-direction L P R rule work u v = reply (tableFault L P R true work orElse pairFault (length P) u v) (course P R rule u v)
+direction L P R rule work u v =
+    refusedOr Refused (tableFault L P R true work orElse pairFault (length P) u v) (course P R rule u v)
 
 -- W and X are the work list before and after
-pub record Directed (L : Limits) (P R : List ℕ) (rule : Rule) (W X : List ℕ) (u v : ℕ) (r : Heading) : Type 0 where
-  pub answer : r ≡ direction L P R rule (length W) u v
-  pub spared : Spared L P R true W X
+abbrev pub Directed : Limits → List ℕ → List ℕ → Rule → List ℕ → List ℕ → ℕ → ℕ → Heading → Type 0
+Directed L P R rule W X u v r =
+    Called (shapeFault L P R true (length W)) W X (r ≡ direction L P R rule (length W) u v)

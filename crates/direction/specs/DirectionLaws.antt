@@ -13,6 +13,7 @@ use lib.IntN.{ℤ, pos, negℤ, natAbs}
 use lib.ListN.{length}
 use borrow.Author.Tests.{lt-leb, ne-eqb}
 use Rattle.laws.specs.Refusals.{orElse-second, refuse-no}
+use Rattle.laws.specs.Search.{refusedOr}
 use Rattle.laws.specs.Tests.{by-test, neither-is}
 use Rattle.table.specs.declared.Limits.{Limits}
 use Rattle.table.specs.Table.{parent, rank, climb, rise, tableFault}
@@ -26,7 +27,7 @@ use Rattle.slopes.specs.Slopes.{slopeAt, edge}
 use Rattle.slopes.specs.SlopeLaws.{slope-positive, slope-increasing}
 use Rattle.direction.specs.declared.Heading.{Heading}
 use Rattle.direction.specs.declared.Heading.the-variants.{Along, Refused}
-use Rattle.direction.specs.Direction.{sideways, heading, course, pairFault, reply, direction}
+use Rattle.direction.specs.Direction.{sideways, heading, course, pairFault, direction}
 use Rattle.direction.specs.RisingPaths.{Rising, Drawn, rising-paths}
 use Rattle.direction.specs.NoCrossing.{no-crossing}
 
@@ -41,9 +42,9 @@ rule-rises rule n = record {
 pub direction-given : (L : Limits) (P R : List ℕ) (rule : Rule) (work u v : ℕ) → tableFault L P R true work ≡ none
     → u < length P → v < length P → u ≢ v
     → direction L P R rule work u v ≡ course P R rule u v
-unfolding direction pairFault reply
+unfolding direction pairFault
 direction-given L P R rule work u v fine lu lv ne =
-    ap (λ f. reply f (course P R rule u v))
+    ap (λ f. refusedOr Refused f (course P R rule u v))
     (orElse-second (tableFault L P R true work) _ fine
     ∙ orElse-second _ _ (refuse-no _ 9 0 (neither-is (lt-leb (length P) u lu) (lt-leb (length P) v lv)))
     ∙ refuse-no _ 13 0 (ne-eqb u v ne))

@@ -11,7 +11,7 @@ use Rattle.slopes.specs.declared.Rule.the-variants.{Steep}
 use Rattle.slopes.specs.Slopes.{slopeAt, edge}
 use Rattle.direction.specs.declared.Heading.{Heading}
 use Rattle.direction.specs.declared.Heading.the-variants.{Along, Refused}
-use Rattle.direction.specs.Direction.{sideways, heading, pairFault, reply, direction}
+use Rattle.direction.specs.Direction.{sideways, heading, pairFault, direction}
 
 pub record Case : Type 0 where
   pub start : ℕ
@@ -31,7 +31,7 @@ cases =
 
 unfoldable pub five : ℕ → ℕ → Heading
 unfolding count least climb leads isChild children isChildAt childAt under rise forest postorder place order
-    postNumber strayParent badRank adrift shapeFault treeFault tableFault slopeAt edge sideways heading pairFault reply
+    postNumber strayParent badRank adrift shapeFault treeFault tableFault slopeAt edge sideways heading pairFault
     direction
 five u v = direction large (0 ∷ 0 ∷ 0 ∷ 1 ∷ 1 ∷ []) (0 ∷ 0 ∷ 1 ∷ 0 ∷ 1 ∷ []) Steep 20 u v
 

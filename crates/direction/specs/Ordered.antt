@@ -11,17 +11,17 @@ use mathlib.Core.List.{List}
 use mathlib.Core.Path.{_≡_}
 use Prim.Native.Nat.{ℕ, _≤_, _<_}
 use lib.ListN.{length}
+use Rattle.laws.specs.Search.{refusedOr}
 use Rattle.table.specs.Table.{under, large}
-use Rattle.table.specs.TableLaws.{Tree}
-use Rattle.table.specs.Numbering.{Numbered}
+use Rattle.table.specs.Numbering.{NumberedTree}
 use Rattle.slopes.specs.declared.Rule.{Rule}
 use Rattle.slopes.specs.declared.Slope.{Slope}
 use Rattle.direction.specs.declared.Heading.{Heading}
-use Rattle.direction.specs.Direction.{course, pairFault, reply}
+use Rattle.direction.specs.declared.Heading.the-variants.{Refused}
+use Rattle.direction.specs.Direction.{course, pairFault}
 
 pub record Ordered (P R W : List ℕ) : Type 0 where
-  pub tree : Tree P R
-  pub numbered : Numbered P R W
+  pub numbered : NumberedTree P R W
   pub few : length P ≤ large .nodes
 
 pub record Pair (P : List ℕ) (u v : ℕ) : Type 0 where
@@ -42,4 +42,4 @@ pub record Small (s : Slope) : Type 0 where
   pub up : s .up < large .nodes
 
 pub record Answered (P R : List ℕ) (rule : Rule) (u v : ℕ) (r : Heading) : Type 0 where
-  pub answer : r ≡ reply (pairFault (length P) u v) (course P R rule u v)
+  pub answer : r ≡ refusedOr Refused (pairFault (length P) u v) (course P R rule u v)

@@ -13,10 +13,10 @@ use Rattle.slopes.specs.declared.Rule.{Rule}
 use Rattle.slopes.specs.declared.Slope.{Slope}
 use Rattle.slopes.specs.Slopes.{acrossOf, upOf, edge}
 use Rattle.drawing.specs.Drawing.{Drawing, lent, fresh}
-use Rattle.drawing.specs.DrawingLaws.{Coordinate, Drawn}
+use Rattle.drawing.specs.DrawingLaws.{Coordinate, Drawn, same-drawing}
 use Rattle.drawing.specs.FreshLaws.{fresh-once, fresh-drawn}
-use Rattle.drawing.specs.Parts.{Numbers, Blank}
-use Rattle.drawing.specs.StretchLaws.{same-drawing}
+use Rattle.drawing.specs.Parts.{Blank}
+use Rattle.table.specs.Numbering.{Numbers}
 
 ------------------------------------------------------------------------
 -- One list

@@ -1,4 +1,4 @@
--- A call's outcome from what its parts say.
+-- Layout's outcome from what its parts say.
 use mathlib.Core.Bool.{Bool}
 use mathlib.Core.List.{List}
 use mathlib.Core.Option.{none, some}
@@ -6,33 +6,27 @@ use mathlib.Core.Path.{_≡_, sym, ap, subst, _∙_}
 use Prim.Native.Nat.{ℕ, _^_, _<_}
 use native.Mathlib.Omega.{arith}
 use lib.ListN.{length}
-use Rattle.laws.specs.Refusals.{refusal, some-not-none, orElse-first}
-use Rattle.laws.specs.Search.{Refusal}
-use Rattle.table.specs.Acceptance.{accepting, validity-accepted, validity-refused, validity}
+use Rattle.laws.specs.Refusals.{some-not-none, orElse-first, settle-none, settle-some}
+use Rattle.laws.specs.Search.{Refusal, Outcome}
+use Rattle.table.specs.Acceptance.{accepting, validity-accepted}
 use Rattle.table.specs.declared.Limits.{Limits}
 use Rattle.table.specs.declared.Validity.{Validity}
 use Rattle.table.specs.declared.Validity.the-variants.{Accepted, Refused}
 use Rattle.table.specs.Numbering.{Numbered}
-use Rattle.table.specs.Table.{shapeFault, treeFault, tableFault}
+use Rattle.table.specs.Table.{shapeFault, treeFault, tableFault, validity}
 use Rattle.table.specs.Work.{Validated, Ready}
 use Rattle.slopes.specs.declared.Rule.{Rule}
 use Rattle.drawing.specs.declared.Framed.{Framed}
 use Rattle.drawing.specs.declared.Framed.the-variants as framed
-use Rattle.drawing.specs.CallLaws.{settle-none, settle-some}
-use Rattle.drawing.specs.Drawing.{Drawing, Outcome, lengthsFit, fresh, frame, layout, Laid, Lengthened, Shortened}
-use Rattle.drawing.specs.DrawingLaws.{three-long}
+use Rattle.drawing.specs.Drawing.{Drawing, lengthsFit, fresh, frame, layout, OnDrawing}
 use Rattle.drawing.specs.FreshLaws.{Roomy}
-use Rattle.drawing.specs.Parts.{Prepared, Sized, Blank}
+use Rattle.drawing.specs.Parts.{Prepared, Blank, fault, no-fault, sized}
 
 -- where the table is accepted, the work list may change
 never-spared : (L : Limits) (P R : List ℕ) (long : Bool) (work : ℕ) (f : Refusal) → tableFault L P R long work ≡ none
     → shapeFault L P R long work ≡ some f → ⊥
 unfolding tableFault
 never-spared L P R long work f e g = some-not-none (sym (orElse-first _ (treeFault P R) g) ∙ e)
-
-pub framed-outcome : {t : Drawing} {q : Framed} → q ≡ frame t
-    → _≡_ {A = Outcome} (record { answer = q; drawing = t }) (record { answer = frame t; drawing = t })
-framed-outcome {t} e = ap (λ (a : Framed). record { answer = a; drawing = t }) e
 
 -- the table is tested, then numbered
 module _ (L : Limits) (P R : List ℕ) (s : Drawing) {long : Bool} {W X : List ℕ} {r : Validity}
@@ -44,7 +38,8 @@ module _ (L : Limits) (P R : List ℕ) (s : Drawing) {long : Bool} {W X : List �
   prepared-refused e = record {
     answer = sym e ∙ answer;
     spared = subst (λ b. (f : Refusal) → shapeFault L P R b (length W) ≡ some f → X ≡ W) is (v .spared);
-    numbered = λ a. absurd (let z : _≡_ {A = ℕ} 0 1 = cc in omega arith);
+    long = v .kept .long;
+    left = λ a. absurd (let z : _≡_ {A = ℕ} 0 1 = cc in omega arith);
   }
 
   none-left : r ≡ Accepted → tableFault L P R (lengthsFit P s) (length W) ≡ none
@@ -67,54 +62,46 @@ module _ (L : Limits) (P R : List ℕ) (s : Drawing) {long : Bool} {W X : List �
       record {
         answer = sym e ∙ answer;
         spared = λ f g. absurd (never-spared L P R _ (length W) f (none-left e) g);
-        numbered = λ q. record { tree = a .tree; few = a .few; numbers = n };
+        long = n .long ∙ sym (accepting L P R _ (length W) (none-left e) .shape .work-long);
+        left = λ q. record { tree = a .tree; few = a .few; numbers = n };
       }
 
 module _ {L : Limits} {P R : List ℕ} {s : Drawing} {W X : List ℕ} {r : Validity} (p : Prepared L P R s W X r) where
-  pub no-fault : r ≡ Accepted → tableFault L P R (lengthsFit P s) (length W) ≡ none
-  no-fault e = validity-accepted _ (sym (p .answer) ∙ e)
-
-  pub fault : {k z : ℕ} → r ≡ Refused k z → tableFault L P R (lengthsFit P s) (length W) ≡ refusal k z
-  fault {k} {z} e = validity-refused _ k z (sym (p .answer) ∙ e)
-
-  pub sized : r ≡ Accepted → Sized P R s X
-  sized e =
-      let three = three-long (length P) s (accepting L P R _ (length W) (no-fault e) .shape .others) in
-      record { numbered = p .numbered e; times = three .0; x = three .1; y = three .2 }
-
   pub blank : {rule : Rule} → L .place < 2 ^ 32 → Roomy L → r ≡ Accepted → Blank P R rule s X
   blank {rule} low room e =
-      let few = accepting L P R _ (length W) (no-fault e) .shape .few in
+      let few = accepting L P R _ (length W) (no-fault p e) .shape .few in
       record {
-        sized = sized e;
+        sized = sized p e;
         wide = omega (arith, room .across rule (length P) few);
         tall = omega (arith, room .up rule (length P) few);
       }
 
-  pub laid-refused : {rule : Rule} {k z : ℕ} → r ≡ Refused k z → Laid L P R rule s W s X (framed.Refused k z)
+  pub laid-refused : (rule : Rule) {k z : ℕ} → r ≡ Refused k z
+      → OnDrawing L P R s W s X (framed.Refused k z) (layout L P R rule s (length W))
   unfolding layout
-  laid-refused {rule} e = record { outcome = sym (settle-some s (fresh P R rule) _ (fault e)); spared = p .spared }
+  laid-refused rule e =
+      let new = fresh P R rule in
+      record {
+        says = sym (settle-some framed.Refused s (frame new) new _ (fault p e));
+        spared = p .spared;
+        long = p .long;
+      }
 
-  pub laid-fresh : {rule : Rule} {t : Drawing} {q : Framed} → r ≡ Accepted → t ≡ fresh P R rule → q ≡ frame t
-      → Laid L P R rule s W t X q
+  pub laid-fresh : (rule : Rule) {t : Drawing} {q : Framed} → r ≡ Accepted → t ≡ fresh P R rule → q ≡ frame t
+      → OnDrawing L P R s W t X q (layout L P R rule s (length W))
   unfolding layout
-  laid-fresh {rule} {t} e is fr = record {
-    outcome = framed-outcome fr ∙ ap (λ u. record { answer = frame u; drawing = u }) is
-        ∙ sym (settle-none s (fresh P R rule) _ (no-fault e));
-    spared = p .spared;
-  }
+  laid-fresh rule {t} {q} e is fr =
+      let new = fresh P R rule in
+      record {
+        says = ap (λ (a : Framed). record { answer = a; left = t }) fr
+            ∙ ap (λ (u : Drawing). record { answer = frame u; left = u }) is
+            ∙ sym (settle-none framed.Refused s (frame new) new _ (no-fault p e));
+        spared = p .spared;
+        long = p .long;
+      }
 
 -- at limits that are the same
-pub laid-at : {L M : Limits} {P R : List ℕ} {rule : Rule} {s : Drawing} {W : List ℕ} {t : Drawing} {X : List ℕ}
-    {r : Framed}
-    → L ≡ M → Laid L P R rule s W t X r → Laid M P R rule s W t X r
-laid-at {P = P} {R} {rule} {s} {W} {t} {X} {r} e = subst (λ M. Laid M P R rule s W t X r) e
-
-module _ {L M : Limits} {P R : List ℕ} {rule : Rule} {s : Drawing} {W : List ℕ} {v c : ℕ} {t : Drawing} {X : List ℕ}
-    {r : Framed}
-    (e : L ≡ M) where
-  pub lengthened-at : Lengthened L P R rule s W v c t X r → Lengthened M P R rule s W v c t X r
-  lengthened-at = subst (λ M. Lengthened M P R rule s W v c t X r) e
-
-  pub shortened-at : Shortened L P R rule s W v c t X r → Shortened M P R rule s W v c t X r
-  shortened-at = subst (λ M. Shortened M P R rule s W v c t X r) e
+pub laid-at : {L M : Limits} (P R : List ℕ) (rule : Rule) (s : Drawing) (W : List ℕ) {t : Drawing} {X : List ℕ}
+    {r : Framed} → L ≡ M → OnDrawing L P R s W t X r (layout L P R rule s (length W))
+    → OnDrawing M P R s W t X r (layout M P R rule s (length W))
+laid-at P R rule s W {t} {X} {r} e = subst (λ M. OnDrawing M P R s W t X r (layout M P R rule s (length W))) e

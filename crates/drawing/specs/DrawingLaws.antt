@@ -46,6 +46,9 @@ pub record Drawn (limit : ℕ) (P R : List ℕ) (rule : Rule) (s : Drawing) : Ty
   pub x : Coordinate limit P R rule (s .times) acrossOf (s .x)
   pub y : Coordinate limit P R rule (s .times) upOf (s .y)
 
+pub same-drawing : {s t : Drawing} → s .times ≡ t .times → s .x ≡ t .x → s .y ≡ t .y → s ≡ t
+same-drawing p q r = λ i. record { times = p i; x = q i; y = r i }
+
 ------------------------------------------------------------------------
 -- The lengths
 

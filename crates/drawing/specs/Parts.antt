@@ -1,66 +1,34 @@
--- What the parts of the calls need and leave.
+-- What the parts of layout need and leave.
 --
---   by longer a d          == a and d more, or d less
---   placedFrom limit X p v step == v's place is that of p and `step` more, and within the limit
---   rootFits s             == the root has times 1 and place (0, 0)
---   misfit limit .. v      == refusal 8 applies to v
---   NumberedTree P R W     == P and R are an accepted table, and the work list W holds its post-order numbers
---   Numbers P R j v        == v is the node with number j, other than the root
---   Prepared L .. r        == the answer r is refusals 1 to 7 of a call on the drawing s; if none, the table is numbered
+--   Tested L .. f Left r   == the answer r to a call on the drawing s is refusal f; if there is none, Left holds then
+--   Prepared L .. r        == refusals 1 to 7; if none, the table is numbered
 --   Sized P R s W          == the lists of s are as long as the table, which is numbered
 --   Blank P R rule s W     == and a fresh drawing has places below 2^32
---   AllFit limit .. r      == r says whether refusal 8 applies to no node
---   Checked L .. r         == the answer r is refusals 1 to 10 of a call on the drawing s
---   Passes limit P X v d r == r says whether a place of v's subtree is beyond the limit when it is moved on by d
---   Movable P X v d longer == v's subtree can be moved on, or back, by d
---   Stretchable ..         == v's edge can be made longer, or shorter
---   Stretched .. t r       == the drawing t with that edge, and its frame r
-use mathlib.Core.Bool.{Bool, true, false, not, _&&_}
 use mathlib.Core.List.{List}
-use mathlib.Core.Path.{_≡_}
-use Prim.Native.Nat.{ℕ, _+_, _-_, _*_, _^_, _≤_, _<_}
-use lib.Dec.{leb, eqb}
-use lib.ListN.{length, getD}
+use mathlib.Core.Option.{Option, none}
+use mathlib.Core.Path.{_≡_, sym, ap, _∙_}
+use Prim.Native.Nat.{ℕ, _^_, _<_}
+use native.Mathlib.Omega.{arith}
+use lib.ListN.{length}
+use Rattle.laws.specs.Refusals.{refusal}
+use Rattle.laws.specs.Search.{Refusal}
+use Rattle.table.specs.Acceptance.{accepting, validity-accepted, validity-refused}
 use Rattle.table.specs.declared.Limits.{Limits}
 use Rattle.table.specs.declared.Validity.{Validity}
-use Rattle.table.specs.declared.Validity.the-variants.{Accepted}
-use Rattle.table.specs.Numbering.{Numbered}
-use Rattle.table.specs.Table.{under, postNumber, tableFault, Spared}
-use Rattle.table.specs.Acceptance.{validity}
-use Rattle.table.specs.TableLaws.{Tree}
+use Rattle.table.specs.declared.Validity.the-variants.{Accepted, Refused}
+use Rattle.table.specs.Numbering.{NumberedTree}
+use Rattle.table.specs.Table.{shapeFault, tableFault, validity, Spared}
 use Rattle.slopes.specs.declared.Rule.{Rule}
 use Rattle.slopes.specs.SlopeLaws.{acrossBound, upBound}
-use Rattle.slopes.specs.Slopes.{acrossOf, upOf, edge}
-use Rattle.drawing.specs.declared.Framed.{Framed}
-use Rattle.drawing.specs.Drawing.{Drawing, lengthsFit, frame, nodeFits, stretched, drawingFault}
+use Rattle.drawing.specs.Drawing.{Drawing, lengthsFit}
+use Rattle.drawing.specs.DrawingLaws.{three-long}
 
-abbrev pub by : Bool → ℕ → ℕ → ℕ
-by true a d = a + d
-by false a d = a - d
-
-abbrev pub placedFrom : ℕ → List ℕ → ℕ → ℕ → ℕ → Bool
-placedFrom limit X p v step = eqb (getD X v 0) (getD X p 0 + step) && leb (getD X v 0) limit
-
-abbrev pub rootFits : Drawing → Bool
-rootFits s = eqb (getD (s .times) 0 0) 1 && (eqb (getD (s .x) 0 0) 0 && eqb (getD (s .y) 0 0) 0)
-
-abbrev pub misfit : ℕ → List ℕ → List ℕ → Rule → Drawing → ℕ → Bool
-misfit limit P R rule s v = not (nodeFits limit P R rule s v)
-
-pub record NumberedTree (P R W : List ℕ) : Type 0 where
-  pub tree : Tree P R
-  pub few : length P < 2 ^ 32
-  pub numbers : Numbered P R W
-
-pub record Numbers (P R : List ℕ) (j v : ℕ) : Type 0 where
-  pub above : 0 < v
-  pub inside : v < length P
-  pub number : postNumber P R v ≡ j
-
-pub record Prepared (L : Limits) (P R : List ℕ) (s : Drawing) (W X : List ℕ) (r : Validity) : Type 0 where
-  pub answer : r ≡ validity (tableFault L P R (lengthsFit P s) (length W))
-  pub spared : Spared L P R (lengthsFit P s) W X
-  pub numbered : r ≡ Accepted → NumberedTree P R X
+pub record Tested (L : Limits) (P R : List ℕ) (s : Drawing) (W X : List ℕ) (fault : Option Refusal) (Left : Type 0)
+    (r : Validity) : Type 0 where
+  pub answer : r ≡ validity fault
+  pub spared : Spared (shapeFault L P R (lengthsFit P s) (length W)) W X
+  pub long : length X ≡ length W
+  pub left : r ≡ Accepted → Left
 
 pub record Sized (P R : List ℕ) (s : Drawing) (W : List ℕ) : Type 0 where
   pub numbered : NumberedTree P R W
@@ -73,36 +41,35 @@ pub record Blank (P R : List ℕ) (rule : Rule) (s : Drawing) (W : List ℕ) : T
   pub wide : acrossBound rule (length P) < 2 ^ 32
   pub tall : upBound rule (length P) < 2 ^ 32
 
-pub record AllFit (limit : ℕ) (P R : List ℕ) (rule : Rule) (s : Drawing) (r : Bool) : Type 0 where
-  pub yes : r ≡ true → (v : ℕ) → v < length P → nodeFits limit P R rule s v ≡ true
-  pub no : r ≡ false → (v : ℕ) × (v < length P) × (nodeFits limit P R rule s v ≡ false)
+abbrev pub Prepared : Limits → List ℕ → List ℕ → Drawing → List ℕ → List ℕ → Validity → Type 0
+Prepared L P R s W X = Tested L P R s W X (tableFault L P R (lengthsFit P s) (length W)) (NumberedTree P R X)
 
-pub record Checked (L : Limits) (P R : List ℕ) (rule : Rule) (s : Drawing) (W : List ℕ) (v : ℕ) (X : List ℕ)
-    (r : Validity) : Type 0 where
-  pub answer : r ≡ validity (drawingFault L P R rule s (length W) v)
-  pub spared : Spared L P R (lengthsFit P s) W X
-  pub sized : r ≡ Accepted → Sized P R s X
+module _ {L : Limits} {P R : List ℕ} {s : Drawing} {W X : List ℕ} {f : Option Refusal} {Left : Type 0} {r : Validity}
+    (p : Tested L P R s W X f Left r) where
+  pub no-fault : r ≡ Accepted → f ≡ none
+  no-fault e = validity-accepted _ (sym (p .answer) ∙ e)
 
-pub record Passes (limit : ℕ) (P X : List ℕ) (v d : ℕ) (r : Bool) : Type 0 where
-  pub yes : r ≡ true → (z : ℕ) × (z < length P) × (under P v z ≡ true) × (limit < getD X z 0 + d)
-  pub no : r ≡ false → (z : ℕ) → z < length P → under P v z ≡ true → getD X z 0 + d ≤ limit
+  pub fault : {k z : ℕ} → r ≡ Refused k z → f ≡ refusal k z
+  fault {k} {z} e = validity-refused _ k z (sym (p .answer) ∙ e)
 
-pub record Movable (P X : List ℕ) (v d : ℕ) (longer : Bool) : Type 0 where
-  pub long : length X ≡ length P
-  pub on : longer ≡ true → (z : ℕ) → z < length P → under P v z ≡ true → getD X z 0 + d < 2 ^ 32
-  pub back : longer ≡ false → (z : ℕ) → z < length P → under P v z ≡ true → d ≤ getD X z 0
+  -- a later refusal
+  pub refused-later : {g : Option Refusal} {Later : Type 0} {k z : ℕ} → g ≡ refusal k z
+      → Tested L P R s W X g Later (Refused k z)
+  unfolding validity
+  refused-later e = record {
+    answer = ap validity (sym e);
+    spared = p .spared;
+    long = p .long;
+    left = λ a. absurd (let q : _≡_ {A = ℕ} 0 1 = cc in omega arith);
+  }
 
-pub record Stretchable (P R : List ℕ) (rule : Rule) (s : Drawing) (W : List ℕ) (v c : ℕ) (longer : Bool) : Type 0 where
-  pub numbered : NumberedTree P R W
-  pub above : 0 < v
-  pub inside : v < length P
-  pub long : length (s .times) ≡ length P
-  pub more : longer ≡ true → getD (s .times) v 0 + c < 2 ^ 32
-  pub less : longer ≡ false → c ≤ getD (s .times) v 0
-  pub x : Movable P (s .x) v (c * acrossOf (edge P R rule v)) longer
-  pub y : Movable P (s .y) v (c * upOf (edge P R rule v)) longer
+  -- and none
+  pub accepted-later : {g : Option Refusal} {Later : Type 0} → g ≡ none → Later → Tested L P R s W X g Later Accepted
+  unfolding validity
+  accepted-later e x = record { answer = ap validity (sym e); spared = p .spared; long = p .long; left = λ a. x }
 
-pub record Stretched (P R : List ℕ) (rule : Rule) (s : Drawing) (v c : ℕ) (longer : Bool) (t : Drawing)
-    (r : Framed) : Type 0 where
-  pub drawing : t ≡ stretched (by longer) P R rule s v c
-  pub answer : r ≡ frame t
+pub sized : {L : Limits} {P R : List ℕ} {s : Drawing} {W X : List ℕ} {r : Validity} → Prepared L P R s W X r
+    → r ≡ Accepted → Sized P R s X
+sized {L} {P} {R} {s} {W} p e =
+    let three = three-long (length P) s (accepting L P R _ (length W) (no-fault p e) .shape .others) in
+    record { numbered = p .left e; times = three .0; x = three .1; y = three .2 }

@@ -5,7 +5,7 @@ use mathlib.Core.Path.{_≡_, refl, sym, ap, _∙_}
 use Prim.Native.Nat.{ℕ, _≤_, _<_}
 use native.Mathlib.Omega.{arith}
 use borrow.Author.Tests.{lt-ltb, le-ltb, ltb-false}
-use Rattle.laws.specs.Search.{least, Refusal, refuse, refuseLeast, _orElse_}
+use Rattle.laws.specs.Search.{least, Refusal, refuse, refuseLeast, _orElse_, settle}
 use Rattle.laws.specs.SearchLaws.{least-none}
 use Rattle.laws.specs.Tests.{differ}
 
@@ -63,3 +63,14 @@ refuseLeast-no k n test v e l = refuse-no _ k (least test n) (le-ltb (least test
 
 pub refuseLeast-none : (k n : ℕ) (test : ℕ → Bool) → refuseLeast k n test ≡ none → (v : ℕ) → v < n → test v ≡ false
 refuseLeast-none k n test e = least-none test n (ltb-false (least test n) n (refuse-none _ k (least test n) e))
+
+------------------------------------------------------------------------
+-- A refusal, or the answer with what is left then
+
+module _ {A S : Type 0} (refused : ℕ → ℕ → A) (old : S) (a : A) (new : S) where
+  pub settle-none : (f : Option Refusal) → f ≡ none → settle refused f old a new ≡ record { answer = a; left = new }
+  settle-none f e = ap (λ o. settle refused o old a new) e
+
+  pub settle-some : (f : Option Refusal) {k v : ℕ} → f ≡ refusal k v
+      → settle refused f old a new ≡ record { answer = refused k v; left = old }
+  settle-some f e = ap (λ o. settle refused o old a new) e

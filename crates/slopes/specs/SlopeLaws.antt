@@ -17,13 +17,16 @@ use Rattle.laws.specs.Search.{least}
 use Rattle.laws.specs.SearchLaws.{least-le, least-passes, least-found}
 use Rattle.laws.specs.Sums.{sum, sum-cong}
 use Rattle.laws.specs.Tests.{by-lt}
+use Rattle.table.specs.Numbering.{numbering}
+use Rattle.table.specs.Table.{parent, postNumber}
+use Rattle.table.specs.TableLaws.{Tree}
 use Rattle.slopes.specs.declared.Rule.{Rule}
 use Rattle.slopes.specs.declared.Rule.the-variants.{Steep, Balanced}
 use Rattle.slopes.specs.declared.Slope.{Slope}
 use Rattle.slopes.specs.LevelLaws.{Below, Adjacent, Linked, levels-linked, levels-length, getD-in, sum-total}
 use Rattle.slopes.specs.LevelLaws.{linked-positive, linked-increasing, linked-adjacent}
 use Rattle.slopes.specs.LevelLaws.{Part, across-part, up-part, levels-sum, levels-size}
-use Rattle.slopes.specs.Slopes.{acrossOf, upOf, levels, flat, upright, fractionAt, levelsFor, slopeAt}
+use Rattle.slopes.specs.Slopes.{acrossOf, upOf, levels, flat, upright, fractionAt, levelsFor, slopeAt, edge}
 
 ------------------------------------------------------------------------
 -- The number of levels
@@ -183,3 +186,21 @@ across-sum Balanced n h = omega (arith, balanced-sum acrossOf across-part n h)
 pub up-sum : (rule : Rule) (n : ℕ) → 1 ≤ n → sum (λ i. slopeAt rule n (suc i) .up) (n - 1) ≤ upBound rule n
 up-sum Steep n h = omega (arith, steep-up-sum n h)
 up-sum Balanced n h = omega (arith, balanced-sum upOf up-part n h)
+
+------------------------------------------------------------------------
+-- The slope of an edge
+
+-- from the node's post number
+pub edge-is : (P R : List ℕ) (rule : Rule) (v : ℕ) {j : ℕ} {s : Slope} → j ≡ postNumber P R v
+    → s ≡ slopeAt rule (length P) j → s ≡ edge P R rule v
+unfolding edge
+edge-is P R rule v at e = e ∙ ap (slopeAt rule (length P)) at
+
+pub edge-size : {P R : List ℕ} → Tree P R → (rule : Rule) (v : ℕ) → 0 < v → v < length P
+    → (edge P R rule v .across < length P) × (edge P R rule v .up < length P)
+unfolding edge
+edge-size {P} {R} tree rule v above inside =
+    let n = numbering tree in
+    let low : postNumber P R v < length P =
+    omega (arith, n .parent-later v above inside, n .to-n (parent P v) (tree .inside v inside)) in
+    slope-size rule (length P) (postNumber P R v) (n .from-1 v inside) low

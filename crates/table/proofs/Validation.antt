@@ -1,9 +1,9 @@
--- Refusals in order: what each test of `structure` and `validate` says of the definition.
+-- Refusals in order: what each test says of the definition.
 use mathlib.Core.Bool.{Bool, true, false, not, _&&_, and-false}
 use mathlib.Core.List.{List}
 use mathlib.Core.Option.{Option, none, some}
 use mathlib.Core.Path.{_≡_, refl, sym, ap, _∙_}
-use Prim.Native.Nat.{ℕ, _+_, _*_, _≤_, _<_}
+use Prim.Native.Nat.{ℕ, _+_, _*_, _^_, _≤_, _<_}
 use native.Mathlib.Omega.{arith}
 use lib.Dec.{eqb}
 use lib.ListN.{length}
@@ -14,13 +14,14 @@ use Rattle.laws.specs.Regions.{Only, only-refl, only-trans, only-within}
 use Rattle.laws.specs.Search.{least, Refusal, refuse, refuseLeast}
 use Rattle.laws.specs.SearchLaws.{least-none}
 use Rattle.laws.specs.Tests.{by-lt, differ, false-of, both, both-is}
-use Rattle.table.specs.Acceptance.{Shape, shape-fits, validity}
+use Rattle.table.specs.Acceptance.{shaped, shape-fits, validity-accepted, validity-refused}
 use Rattle.table.specs.declared.Limits.{Limits}
 use Rattle.table.specs.declared.Validity.{Validity}
 use Rattle.table.specs.declared.Validity.the-variants.{Accepted, Refused}
 use Rattle.table.specs.Table.{parent, rank, strayParent, badRank, adrift, shapeFault, treeFault, tableFault}
+use Rattle.table.specs.Table.{validity}
 use Rattle.table.specs.TableLaws.{stray-yes}
-use Rattle.table.specs.Work.{Scratch, Zeroed, Started, Occupied, Shaped, Structured, Validated}
+use Rattle.table.specs.Work.{Scratch, Zeroed, Started, Occupied, Lengths, Rooted, Structured, Validated}
 
 validity-of : {f : Option Refusal} {k v : ℕ} → f ≡ refusal k v → Refused k v ≡ validity f
 unfolding validity
@@ -32,10 +33,10 @@ refused-not-accepted e = let z : _≡_ {A = ℕ} 0 1 = cc in omega arith
 ------------------------------------------------------------------------
 -- Refusals 4 to 7
 
-module _ {P R W : List ℕ} (s : Shaped P R W) where
+module _ {P R W : List ℕ} (s : Rooted P R W) where
   root-right : refuse (not (eqb (parent P 0) 0 && eqb (rank R 0) 0)) 4 0 ≡ none
   root-right =
-      refuse-no _ 4 0 (ap not (both-is (eq-eqb (parent P 0) 0 (s .root-parent)) (eq-eqb (rank R 0) 0 (s .root-rank))))
+      refuse-no _ 4 0 (ap not (both-is (eq-eqb (parent P 0) 0 (s .parent)) (eq-eqb (rank R 0) 0 (s .rank))))
 
   pub structured-5 : {v : ℕ} → v ≡ least (strayParent P) (length P) → v < length P → Structured P R W W (Refused 5 v)
   unfolding treeFault
@@ -51,15 +52,15 @@ module _ {P R W : List ℕ} (s : Shaped P R W) where
     pub scratch-of : Scratch P W
     scratch-of = record {
       nodes = record {
-        some = s .some;
-        root = s .root-parent;
+        some = s .lengths .some;
+        root = s .parent;
         inside = λ u l. by-lt (parent P u) (length P) (λ h. h)
             (λ h. by-lt 0 u
             (λ a. absurd (differ (stray-yes P u a h) (least-none (strayParent P) (length P) (omega arith) u l)))
-            (λ a. let z : u ≡ 0 = omega arith in absurd (omega (arith, ap (parent P) z, s .root-parent, s .some))));
+            (λ a. let z : u ≡ 0 = omega arith in absurd (omega (arith, ap (parent P) z, s .parent, s .lengths .some))));
       };
-      few = s .few;
-      room = omega arith;
+      few = s .lengths .few;
+      room = omega (arith, s .lengths .long);
     }
 
     no-5 : refuseLeast 5 (length P) (strayParent P) ≡ none
@@ -110,78 +111,94 @@ module _ {P R W : List ℕ} (s : Shaped P R W) where
             };
           }
 
+-- 4
+pub structured-4 : {P R W : List ℕ} → (parent P 0 ≡ 0 → rank R 0 ≡ 0 → ⊥) → Structured P R W W (Refused 4 0)
+unfolding treeFault
+structured-4 {P} {R} {W} ne = record {
+  answer = validity-of (orElse-first _ _ (refuse-yes _ 4 0 (ap not (false-of (λ t.
+      let b = both (eqb (parent P 0) 0) (eqb (rank R 0) 0) t in ne (eqb-true _ _ (b .0)) (eqb-true _ _ (b .1)))))));
+  kept = only-refl _ _ W;
+  started = λ a. absurd (refused-not-accepted a);
+}
+
 ------------------------------------------------------------------------
 -- Refusals 1 to 3
 
-module _ (L : Limits) (P R : List ℕ) (long : Bool) (W : List ℕ) where
-  early : {k v : ℕ} → shapeFault L P R long (length W) ≡ refusal k v → Validated L P R long W W (Refused k v)
-  unfolding tableFault
-  early e = record {
-    answer = validity-of (orElse-first _ _ e);
-    spared = λ f h. refl;
-    kept = only-refl _ _ W;
-    started = λ a. absurd (refused-not-accepted a);
-  }
+module _ (L : Limits) (P R : List ℕ) (long : Bool) (work : ℕ) where
+  abbrev answer : Validity
+  answer = validity (shapeFault L P R long work)
 
-  pub validated-1 : length P ≡ 0 → Validated L P R long W W (Refused 1 0)
+  pub refused-1 : length P ≡ 0 → Refused 1 0 ≡ answer
   unfolding shapeFault
-  validated-1 e = early (orElse-first _ _ (refuse-yes _ 1 0 (eq-eqb (length P) 0 e)))
+  refused-1 e = validity-of (orElse-first _ _ (refuse-yes _ 1 0 (eq-eqb (length P) 0 e)))
 
   module _ (full : length P ≡ 0 → ⊥) where
     no-1 : refuse (eqb (length P) 0) 1 0 ≡ none
     no-1 = refuse-no _ 1 0 (ne-eqb (length P) 0 full)
 
-    pub validated-2 : L .nodes < length P → Validated L P R long W W (Refused (L .surplus) 0)
+    pub refused-2 : L .nodes < length P → Refused (L .many) 0 ≡ answer
     unfolding shapeFault
-    validated-2 h =
-        early (orElse-second _ _ no-1 ∙ orElse-first _ _ (refuse-yes _ (L .surplus) 0 (lt-ltb (L .nodes) (length P) h)))
+    refused-2 h =
+        validity-of (orElse-second _ _ no-1
+        ∙ orElse-first _ _ (refuse-yes _ (L .many) 0 (lt-ltb (L .nodes) (length P) h)))
 
     module _ (few : length P ≤ L .nodes) where
-      wrong-lengths : eqb (length R) (length P) && (long && eqb (length W) (4 * length P)) ≡ false
-          → Validated L P R long W W (Refused 3 0)
+      wrong-lengths : eqb (length R) (length P) && (long && eqb work (4 * length P)) ≡ false → Refused 3 0 ≡ answer
       unfolding shapeFault
       wrong-lengths e =
-          early (orElse-second _ _ no-1
-          ∙ orElse-second _ _ (refuse-no _ (L .surplus) 0 (le-ltb (L .nodes) (length P) few))
+          validity-of (orElse-second _ _ no-1
+          ∙ orElse-second _ _ (refuse-no _ (L .many) 0 (le-ltb (L .nodes) (length P) few))
           ∙ refuse-yes _ 3 0 (ap not e))
 
-      pub validated-3-ranks : (length R ≡ length P → ⊥) → Validated L P R long W W (Refused 3 0)
-      validated-3-ranks ne = wrong-lengths (rw (ne-eqb (length R) (length P) ne) refl)
+      pub refused-3-ranks : (length R ≡ length P → ⊥) → Refused 3 0 ≡ answer
+      refused-3-ranks ne = wrong-lengths (rw (ne-eqb (length R) (length P) ne) refl)
 
-      pub validated-3-others : long ≡ false → Validated L P R long W W (Refused 3 0)
-      validated-3-others e = wrong-lengths (rw e (and-false (eqb (length R) (length P))))
+      pub refused-3-others : long ≡ false → Refused 3 0 ≡ answer
+      refused-3-others e = wrong-lengths (rw e (and-false (eqb (length R) (length P))))
 
-      pub validated-3-work : (length W ≡ 4 * length P → ⊥) → Validated L P R long W W (Refused 3 0)
-      validated-3-work ne =
-          wrong-lengths (rw (ne-eqb (length W) (4 * length P) ne, and-false long)
-          (and-false (eqb (length R) (length P))))
+      pub refused-3-work : (work ≡ 4 * length P → ⊥) → Refused 3 0 ≡ answer
+      refused-3-work ne =
+          wrong-lengths (rw (ne-eqb work (4 * length P) ne, and-false long) (and-false (eqb (length R) (length P))))
+
+      pub lengths-right : length R ≡ length P → long ≡ true → work ≡ 4 * length P → Accepted ≡ answer
+      unfolding validity
+      lengths-right ranks others room =
+          ap validity (sym (shape-fits (record {
+            some = omega arith;
+            few = few;
+            ranks = ranks;
+            others = others;
+            work-long = room;
+          })))
 
 ------------------------------------------------------------------------
--- The rest
+-- One after the other
 
-pub shape : {L : Limits} {P R : List ℕ} {long : Bool} {work : ℕ} → (length P ≡ 0 → ⊥) → length P ≤ L .nodes
-    → length R ≡ length P → long ≡ true → work ≡ 4 * length P → Shape L P R long work
-shape full few ranks others work-long =
-    record { some = omega arith; few = few; ranks = ranks; others = others; work-long = work-long }
-
-module _ {L : Limits} {P R : List ℕ} {long : Bool} {W : List ℕ} (s : Shape L P R long (length W)) where
-  late : {X : List ℕ} {r : Validity} → r ≡ validity (treeFault P R) → Only 0 (2 * length P) W X
-      → (r ≡ Accepted → Started P X)
-      → Validated L P R long W X r
+module _ (L : Limits) (P R : List ℕ) (long : Bool) (W : List ℕ) {r : Validity}
+    (is : r ≡ validity (shapeFault L P R long (length W))) where
+  pub validated-lengths : {k v : ℕ} → r ≡ Refused k v → Validated L P R long W W (Refused k v)
   unfolding tableFault
-  late e o d = record {
-    answer = e ∙ ap validity (sym (orElse-second _ _ (shape-fits s)));
-    spared = λ f h. absurd (some-not-none (sym h ∙ shape-fits s));
-    kept = o;
-    started = d;
+  validated-lengths {k} {v} e = record {
+    answer = validity-of (orElse-first _ _ (validity-refused _ k v (sym is ∙ e)));
+    spared = λ f h. refl;
+    kept = only-refl _ _ W;
+    started = λ a. absurd (refused-not-accepted a);
   }
 
-  pub validated-4 : (parent P 0 ≡ 0 → rank R 0 ≡ 0 → ⊥) → Validated L P R long W W (Refused 4 0)
-  unfolding treeFault
-  validated-4 ne =
-      late (validity-of (orElse-first _ _ (refuse-yes _ 4 0 (ap not (false-of (λ t.
-      let b = both (eqb (parent P 0) 0) (eqb (rank R 0) 0) t in ne (eqb-true _ _ (b .0)) (eqb-true _ _ (b .1))))))))
-      (only-refl _ _ W) (λ a. absurd (refused-not-accepted a))
+  module _ (ok : r ≡ Accepted) where
+    no-fault : shapeFault L P R long (length W) ≡ none
+    no-fault = validity-accepted _ (sym is ∙ ok)
 
-  pub validated-all : {X : List ℕ} {r : Validity} → Structured P R W X r → Validated L P R long W X r
-  validated-all t = late (t .answer) (t .kept) (t .started)
+    pub lengths-of : L .nodes < 2 ^ 32 → Lengths P R W
+    lengths-of few =
+        let s = shaped L P R long (length W) no-fault in
+        record { some = s .some; few = omega arith; ranks = s .ranks; long = s .work-long }
+
+    pub validated-tree : {X : List ℕ} {q : Validity} → Structured P R W X q → Validated L P R long W X q
+    unfolding tableFault
+    validated-tree t = record {
+      answer = t .answer ∙ ap validity (sym (orElse-second _ _ no-fault));
+      spared = λ f h. absurd (some-not-none (sym h ∙ no-fault));
+      kept = t .kept;
+      started = t .started;
+    }

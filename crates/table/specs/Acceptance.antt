@@ -2,7 +2,6 @@
 --
 --   Shape L ..       == what refusals 1 to 3 leave
 --   Accepting L ..   == what refusals 1 to 7 leave
---   validity f       == the answer that says refusal f, or that the table is accepted
 --   RanksUsedOnce    == the ranks of a node's children are 0, 1, .., each used by one
 use mathlib.Core.Bool.{Bool, true, false, not}
 use mathlib.Core.List.{List}
@@ -21,15 +20,10 @@ use Rattle.laws.specs.Tests.{by-eq, by-lt, differ, both, both-is, trichotomy}
 use Rattle.table.specs.Ancestry.{climb-root, leads-in-n, leads-steps}
 use Rattle.table.specs.Children.{Nodes, Child, childAt-test, childAt-is}
 use Rattle.table.specs.declared.Limits.{Limits}
-use Rattle.table.specs.declared.Validity.{Validity}
 use Rattle.table.specs.declared.Validity.the-variants.{Accepted, Refused}
 use Rattle.table.specs.Table.{parent, rank, climb, leads, children, childAt, strayParent, badRank, adrift}
-use Rattle.table.specs.Table.{shapeFault, treeFault, tableFault}
+use Rattle.table.specs.Table.{shapeFault, treeFault, tableFault, validity}
 use Rattle.table.specs.TableLaws.{Tree, tree-ranked, stray-yes, bad-high, bad-shared, adrift-yes}
-
-unfoldable pub validity : Option Refusal → Validity
-validity none = Accepted
-validity (some r) = Refused (r .number) (r .node)
 
 ------------------------------------------------------------------------
 -- The shape
@@ -52,7 +46,7 @@ shaped L P R long work e =
     let d = both _ _ (c .1) in
     record {
       some = some-node (length P) (eqb-false _ _ (refuse-none _ 1 0 (a .0)));
-      few = ltb-false _ _ (refuse-none _ (L .surplus) 0 (b .0));
+      few = ltb-false _ _ (refuse-none _ (L .many) 0 (b .0));
       ranks = eqb-true _ _ (c .0);
       others = d .0;
       work-long = eqb-true _ _ (d .1);
@@ -66,7 +60,7 @@ pub shape-fits : {L : Limits} {P R : List ℕ} {long : Bool} {work : ℕ} → Sh
 unfolding shapeFault
 shape-fits {L} {P} {R} {long} {work} s =
     orElse-second _ _ (refuse-no _ 1 0 (ne-eqb (length P) 0 (λ e. omega arith)))
-    ∙ orElse-second _ _ (refuse-no _ (L .surplus) 0 (le-ltb (L .nodes) (length P) (s .few)))
+    ∙ orElse-second _ _ (refuse-no _ (L .many) 0 (le-ltb (L .nodes) (length P) (s .few)))
     ∙ refuse-no _ 3 0 (ap not (both-is (eq-eqb (length R) (length P) (s .ranks))
     (both-is (s .others) (eq-eqb work (4 * length P) (s .work-long)))))
 

@@ -2,6 +2,10 @@
 --
 --   Numbering P R number   == the laws of a numbering in post-order
 --   Numbered P R W         == the regions of the work list W hold the post-order numbers
+--   NumberedTree P R W     == and P and R are an accepted table
+--   Numbers P R j v        == v is the node with number j, other than the root
+--   edge-number            == a node other than the root has a number below n
+--   numbered-node          == where the work list has the node with number j
 --   numbering              == post numbers are a numbering
 --   climb-between          == a node's number lies between the first and the last of each subtree that it is in,
 --   between-climb             and is in each such subtree
@@ -10,7 +14,7 @@ use mathlib.Core.Bool.{true}
 use mathlib.Core.List.{List, [], _∷_, _++_}
 use mathlib.Core.Logic.{_↔_}
 use mathlib.Core.Path.{_≡_, sym, ap, ap₂, subst, subst⁻¹, _∙_}
-use Prim.Native.Nat.{ℕ, zero, suc, _+_, _-_, _*_, _≤_, _<_}
+use Prim.Native.Nat.{ℕ, zero, suc, _+_, _-_, _*_, _^_, _≤_, _<_}
 use native.Mathlib.Omega.{arith}
 use lib.ListN.{length, getD, length-append, List·getD-append}
 use lib.Seq.{getD-at, getD-append-add}
@@ -40,6 +44,16 @@ pub record Numbered (P R W : List ℕ) : Type 0 where
   pub last : (v : ℕ) → v < length P → getD W v 0 ≡ postNumber P R v
   pub first : (v : ℕ) → v < length P → getD W (2 * length P + v) 0 ≡ firstNumber P R v
   pub node : (j : ℕ) → j < length P → getD W (3 * length P + j) 0 ≡ getD (order P R) j 0
+
+pub record NumberedTree (P R W : List ℕ) : Type 0 where
+  pub tree : Tree P R
+  pub few : length P < 2 ^ 32
+  pub numbers : Numbered P R W
+
+pub record Numbers (P R : List ℕ) (j v : ℕ) : Type 0 where
+  pub above : 0 < v
+  pub inside : v < length P
+  pub number : postNumber P R v ≡ j
 
 ------------------------------------------------------------------------
 -- A node's block is in its parent's, and siblings' blocks follow each other
@@ -245,3 +259,24 @@ module _ {P R : List ℕ} (t : Tree P R) where
         let k = between-climb v z lv lz (omega (arith, b .0, first-is t v lv)) (b .1) in
         steps-under P (t .inside) v z (k .0) lz (k .1)),
   )
+
+-- for the slope of its edge
+pub edge-number : {P R W : List ℕ} → NumberedTree P R W → {v : ℕ} → 0 < v → v < length P
+    → (1 ≤ getD W v 0) × (getD W v 0 < length P)
+edge-number {P} t {v} above inside =
+    let n = numbering (t .tree) in
+    let is = t .numbers .last v inside in (
+      omega (arith, n .from-1 v inside),
+      omega (arith, n .parent-later v above inside, n .to-n (parent P v) (t .tree .inside v inside)),
+    )
+
+pub numbered-node : {P R W : List ℕ} {j v : ℕ} → NumberedTree P R W → 0 < j → j < length P
+    → v ≡ getD W (3 * length P + j - 1) 0
+    → Numbers P R j v
+numbered-node {P} {R} {W} {j} {v} t some low at =
+    let there = number-at (t .tree) (j - 1) (omega arith) in
+    let is : v ≡ getD (order P R) (j - 1) 0 =
+    at ∙ ap (λ k. getD W k 0) (omega arith) ∙ t .numbers .node (j - 1) (omega arith) in
+    let number : postNumber P R v ≡ j = ap (postNumber P R) is ∙ omega arith in
+    let not-root : v ≡ 0 → ⊥ = λ z. omega (arith, ap (postNumber P R) z, root-last (t .tree)) in
+    record { above = omega arith; inside = omega arith; number = number }

@@ -15,11 +15,13 @@
 --   postorder P R f v        == v's subtree, the subtrees of the children in rank order, then v; f bounds the depth
 --   order P R                == the whole post-order: the root's subtree
 --   postNumber P R v         == v's place in it, from 1
---   large, checked           == the limits of a call on a table, and of the check
+--   large, checked, printed  == the limits of a call on a table, of the check, and of the program `sheet`
 --   shapeFault L ..          == refusals 1 to 3 at the limits L
 --   treeFault P R            == refusals 4 to 7
 --   tableFault L ..          == both, in this order
---   Spared L ..              == the work list, W at entry and X at exit, is left alone on refusals 1 to 3
+--   validity f               == whether a table is one: refusal f, or accepted
+--   Spared fault W X         == the work list, W at entry and X at exit, is left alone on these refusals
+--   Called fault W X Says    == a call's contract: what it answers and leaves, and what becomes of the work list
 use mathlib.Core.Bool.{Bool, true, cond, not, _&&_, _||_}
 use mathlib.Core.List.{List, [], _∷_, _++_}
 use mathlib.Core.Option.{Option, some}
@@ -27,8 +29,10 @@ use mathlib.Core.Path.{_≡_}
 use Prim.Native.Nat.{ℕ, zero, suc, _*_}
 use lib.Dec.{ltb, leb, eqb}
 use lib.ListN.{length, getD}
-use Rattle.laws.specs.Search.{count, least, Refusal, refuse, refuseLeast, _orElse_}
+use Rattle.laws.specs.Search.{count, least, Refusal, refuse, refuseLeast, _orElse_, refusedOr}
 use Rattle.table.specs.declared.Limits.{Limits}
+use Rattle.table.specs.declared.Validity.{Validity}
+use Rattle.table.specs.declared.Validity.the-variants.{Accepted, Refused}
 
 ------------------------------------------------------------------------
 -- Parents and children
@@ -93,11 +97,18 @@ postNumber P R v = suc (place v (order P R))
 ------------------------------------------------------------------------
 -- Limits
 
+-- no call takes a place beyond this
+abbrev pub farthest : ℕ
+farthest = 2147483647
+
 abbrev pub large : Limits
-large = record { nodes = 65536; surplus = 2; place = 2147483647; beyond = 11 }
+large = record { nodes = 65536; many = 2; place = farthest; far = 11 }
 
 abbrev pub checked : Limits
-checked = record { nodes = 4096; surplus = 14; place = 2147483647; beyond = 15 }
+checked = record { nodes = 4096; many = 14; place = farthest; far = 15 }
+
+abbrev pub printed : Limits
+printed = record { nodes = 4096; many = 14; place = farthest; far = 11 }
 
 ------------------------------------------------------------------------
 -- Refusals 1 to 7
@@ -126,7 +137,7 @@ allLong n (l ∷ ls) = eqb (length l) n && allLong n ls
 unfoldable pub shapeFault : Limits → List ℕ → List ℕ → Bool → ℕ → Option Refusal
 shapeFault L P R long work =
     refuse (eqb (length P) 0) 1 0
-    orElse refuse (ltb (L .nodes) (length P)) (L .surplus) 0
+    orElse refuse (ltb (L .nodes) (length P)) (L .many) 0
     orElse refuse (not (eqb (length R) (length P) && (long && eqb work (4 * length P)))) 3 0
 
 unfoldable pub treeFault : List ℕ → List ℕ → Option Refusal
@@ -139,5 +150,17 @@ treeFault P R =
 unfoldable pub tableFault : Limits → List ℕ → List ℕ → Bool → ℕ → Option Refusal
 tableFault L P R long work = shapeFault L P R long work orElse treeFault P R
 
-abbrev pub Spared : Limits → List ℕ → List ℕ → Bool → List ℕ → List ℕ → Type 0
-Spared L P R long W X = (f : Refusal) → shapeFault L P R long (length W) ≡ some f → X ≡ W
+unfoldable pub validity : Option Refusal → Validity
+validity f = refusedOr Refused f Accepted
+
+------------------------------------------------------------------------
+-- What a call's contract says
+
+abbrev pub Spared : Option Refusal → List ℕ → List ℕ → Type 0
+Spared fault W X = (f : Refusal) → fault ≡ some f → X ≡ W
+
+-- Says: the answer and the lists at exit are what the call's definition says
+pub record Called (fault : Option Refusal) (W X : List ℕ) (Says : Type 0) : Type 0 where
+  pub says : Says
+  pub spared : Spared fault W X
+  pub long : length X ≡ length W

@@ -27,9 +27,8 @@ use Rattle.table.specs.declared.Limits.{Limits}
 use Rattle.table.specs.declared.Validity.{Validity}
 use Rattle.table.specs.declared.Validity.the-variants.{Accepted}
 use Rattle.table.specs.Table.{parent, rank, climb, children, isChildAt, order, postNumber, treeFault}
-use Rattle.table.specs.Table.{tableFault, Spared}
+use Rattle.table.specs.Table.{shapeFault, tableFault, validity, Spared}
 use Rattle.table.specs.Postorder.{firstNumber}
-use Rattle.table.specs.Acceptance.{validity}
 use Rattle.table.specs.TableLaws.{Tree}
 
 pub record Scratch (P W : List ℕ) : Type 0 where
@@ -84,25 +83,31 @@ pub record Reaching (P W : List ℕ) (v k : ℕ) : Type 0 where
   pub before : (i : ℕ) → i < k → marked P W (climb P i v) ≡ false
 
 ------------------------------------------------------------------------
--- What `validate` says and leaves, and what `number` needs
+-- What the tests say and leave, and what `number` needs
 
-pub record Validated (L : Limits) (P R : List ℕ) (long : Bool) (W X : List ℕ) (r : Validity) : Type 0 where
-  pub answer : r ≡ validity (tableFault L P R long (length W))
-  pub spared : Spared L P R long W X
-  pub kept : Only 0 (2 * length P) W X
-  pub started : r ≡ Accepted → Started P X
-
--- what refusals 1 to 4 leave to `structure`, and what it says
-pub record Shaped (P R W : List ℕ) : Type 0 where
+-- what refusals 1 to 3 leave
+pub record Lengths (P R W : List ℕ) : Type 0 where
   pub some : 0 < length P
   pub few : length P < 2 ^ 32
   pub ranks : length R ≡ length P
   pub long : length W ≡ 4 * length P
-  pub root-parent : parent P 0 ≡ 0
-  pub root-rank : rank R 0 ≡ 0
 
+-- and refusal 4
+pub record Rooted (P R W : List ℕ) : Type 0 where
+  pub lengths : Lengths P R W
+  pub parent : parent P 0 ≡ 0
+  pub rank : rank R 0 ≡ 0
+
+-- refusals 4 to 7
 pub record Structured (P R W X : List ℕ) (r : Validity) : Type 0 where
   pub answer : r ≡ validity (treeFault P R)
+  pub kept : Only 0 (2 * length P) W X
+  pub started : r ≡ Accepted → Started P X
+
+-- refusals 1 to 7
+pub record Validated (L : Limits) (P R : List ℕ) (long : Bool) (W X : List ℕ) (r : Validity) : Type 0 where
+  pub answer : r ≡ validity (tableFault L P R long (length W))
+  pub spared : Spared (shapeFault L P R long (length W)) W X
   pub kept : Only 0 (2 * length P) W X
   pub started : r ≡ Accepted → Started P X
 

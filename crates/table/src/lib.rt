@@ -9,19 +9,20 @@ ghost use Prim.Native.Nat.{_+_, _*_, _^_, _≤_, _<_};
 ghost use lib.ListN.{length, getD, set};
 ghost use Rattle.laws.specs.Regions.{Only};
 ghost use Rattle.laws.specs.Search.{least};
-ghost use Rattle.table.specs.Table.{climb, postNumber, strayParent, badRank, adrift, large};
+ghost use Rattle.table.specs.Table.{climb, postNumber, strayParent, badRank, adrift, shapeFault};
+ghost use Rattle.table.specs.Table.{validity, large, checked, printed};
 ghost use Rattle.table.specs.Work.{Scratch, Zeroed, Tallied, Started, Seating, Occupied, marked, Marking};
-ghost use Rattle.table.specs.Work.{Reaching, Shaped, Structured, Validated, Ready, Seated, Leftmost, Next};
+ghost use Rattle.table.specs.Work.{Reaching, Lengths, Rooted, Structured, Validated, Ready, Seated, Leftmost, Next};
 ghost use Rattle.table.specs.Work.{Visited};
-ghost use Rattle.table.specs.Numbering.{Numbered};
+ghost use Rattle.table.specs.Numbering.{Numbered, NumberedTree, Numbers};
 
-// What a call accepts: the most nodes with the number that refuses more, and the largest place with the number that
-// refuses one beyond it.
+// What a call accepts: the most nodes and the largest place. `many` and `far` are refusal numbers: of more nodes, and of
+// a place beyond.
 pub struct Limits {
     pub nodes: u32,
-    pub surplus: u32,
+    pub many: u32,
     pub place: u32,
-    pub beyond: u32,
+    pub far: u32,
 }
 
 // Whether a table is one: accepted, or a refusal's number and node.
@@ -30,15 +31,41 @@ pub enum Validity {
     Refused(u32, u32),
 }
 
+const FARTHEST: u32 = 2147483647;
+
 // The limits of every call but the check.
 pub fn large_limits() -> Limits
     ensures { λ r. ⌜ r ≡ large ⌝ }
 {
     Limits {
         nodes: 65536,
-        surplus: 2,
-        place: 2147483647,
-        beyond: 11,
+        many: 2,
+        place: FARTHEST,
+        far: 11,
+    }
+}
+
+// The limits of the check.
+pub fn checked_limits() -> Limits
+    ensures { λ r. ⌜ r ≡ checked ⌝ }
+{
+    Limits {
+        nodes: 4096,
+        many: 14,
+        place: FARTHEST,
+        far: 15,
+    }
+}
+
+// The limits of the program `sheet`.
+pub fn printed_limits() -> Limits
+    ensures { λ r. ⌜ r ≡ printed ⌝ }
+{
+    Limits {
+        nodes: 4096,
+        many: 14,
+        place: FARTHEST,
+        far: 11,
     }
 }
 
@@ -250,7 +277,7 @@ fn drifting(parent: &[u32], work: &mut [u32]) -> usize
 
 // Refusals 5 to 7.
 fn structure(parent: &[u32], rank: &[u32], work: &mut [u32]) -> Validity
-    requires { ⌜ Shaped (now parent) (now rank) (now work) ⌝ }
+    requires { ⌜ Rooted (now parent) (now rank) (now work) ⌝ }
     ensures { λ r. ⌜ Structured (now (parent .entry)) (now (rank .entry)) (now (work .entry)) (now (work .exit)) r ⌝ }
 {
     let n = parent.len();
@@ -271,17 +298,17 @@ fn structure(parent: &[u32], rank: &[u32], work: &mut [u32]) -> Validity
     }
     Validity::Accepted
 }
-// Refusals 1 to 7 at the limits, where `long` says that the lists lent besides are as long as the parent list. Only the
-// first 2n numbers of the work list change, and none on a refusal before 4.
-pub fn validate(
+
+// Refusals 1 to 3 at the limits, where `long` says that the lists lent besides are as long as the parent list.
+pub fn test_lengths(
     limits: Limits,
     parent: &[u32],
     rank: &[u32],
     long: bool,
-    work: &mut [u32],
+    work: &[u32],
 ) -> Validity
-    ensures { λ r. ⌜ Validated limits (now (parent .entry)) (now (rank .entry)) long (now (work .entry))
-        (now (work .exit)) r ⌝ }
+    ensures { λ r. ⌜ r ≡ validity (shapeFault limits (now (parent .entry)) (now (rank .entry)) long
+        (length (now (work .entry)))) ⌝ }
 {
     let n = parent.len();
     let most = limits.nodes as usize;
@@ -289,7 +316,7 @@ pub fn validate(
         return Validity::Refused(1, 0);
     }
     if most < n {
-        return Validity::Refused(limits.surplus, 0);
+        return Validity::Refused(limits.many, 0);
     }
     if rank.len() != n {
         return Validity::Refused(3, 0);
@@ -300,6 +327,14 @@ pub fn validate(
     if work.len() != 4 * n {
         return Validity::Refused(3, 0);
     }
+    Validity::Accepted
+}
+
+// Refusals 4 to 7. Only the first 2n numbers of the work list change.
+pub fn test_tree(parent: &[u32], rank: &[u32], work: &mut [u32]) -> Validity
+    requires { ⌜ Lengths (now parent) (now rank) (now work) ⌝ }
+    ensures { λ r. ⌜ Structured (now (parent .entry)) (now (rank .entry)) (now (work .entry)) (now (work .exit)) r ⌝ }
+{
     if get(parent, 0) != 0 {
         return Validity::Refused(4, 0);
     }
@@ -307,6 +342,23 @@ pub fn validate(
         return Validity::Refused(4, 0);
     }
     structure(parent, rank, work)
+}
+
+// Refusals 1 to 7. Only the first 2n numbers of the work list change, and none on a refusal before 4.
+pub fn validate(
+    limits: Limits,
+    parent: &[u32],
+    rank: &[u32],
+    long: bool,
+    work: &mut [u32],
+) -> Validity
+    ensures { λ r. ⌜ Validated limits (now (parent .entry)) (now (rank .entry)) long (now (work .entry))
+        (now (work .exit)) r ⌝ }
+{
+    match test_lengths(limits, parent, rank, long, work) {
+        Validity::Refused(k, v) => Validity::Refused(k, v),
+        Validity::Accepted => test_tree(parent, rank, work),
+    }
 }
 
 // Puts each node into its slot.
@@ -413,4 +465,13 @@ pub fn number(parent: &[u32], rank: &[u32], work: &mut [u32])
     fill(parent, rank, work);
     walk(parent, rank, work);
     invert(parent, rank, work);
+}
+
+// The node with number j, other than the root, in a numbered table.
+pub fn node_at(parent: &[u32], rank: &[u32], work: &[u32], j: usize) -> usize
+    requires { ⌜ NumberedTree (now parent) (now rank) (now work) × (0 < j) × (j < length (now parent)) ⌝ }
+    ensures { λ v. ⌜ Numbers (now (parent .entry)) (now (rank .entry)) j v ⌝ }
+{
+    let n = parent.len();
+    get(work, 3 * n + j - 1)
 }

@@ -50,7 +50,7 @@ returns-2 c =
     let args = at-limits .before .before .before .before .args in
     table-accepted (args .parent .now) (args .rank .now) (args .rule) (args .from) (args .to)
     (at-limits .large-limits .ensures) (at-validate .validate .ensures) (told .enum-told .given .1)
-    _ (at-accepted .accepted .ensures)
+    _ (search needs) (at-accepted .accepted .ensures)
 
 pub direction-spec : {M : Type 1} → statement M
 direction-spec =

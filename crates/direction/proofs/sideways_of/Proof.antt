@@ -1,71 +1,69 @@
 -- Ranks decide to which side the sum of two slopes is turned, and of which nodes they are.
 use borrow.Author.Needs.{needs}
 use Rattle.slopes.specs.Slopes.{edge}
+use Rattle.direction.proofs.EdgeSlopes.{small-edge}
 use Rattle.direction.proofs.Headings.{sideways-left, sideways-right}
 use Rattle.direction.proofs.sideways_of.Statement.{statement}
 use Rattle.direction.proofs.sideways_of.Tie as tie
 
-get-requires : tie.Need-get-requires
-get-requires c κs = search needs
+-- both ranks are read; then the two slopes of either case
+abbrev called : tie.After-get → tie.Start
+called c = c .before .before .before .before
 
-get-requires-2 : tie.Need-get-requires-2
-get-requires-2 c κs = search needs
+abbrev ranked : tie.After-get2 → tie.After-get
+ranked c = c .before
 
-edge-slope-requires : tie.Need-edge-slope-requires
-edge-slope-requires c κs = search needs
+abbrev left : tie.After-edge-slope2 → tie.After-get2
+left c = c .before .before .before
 
-edge-slope-requires-2 : tie.Need-edge-slope-requires-2
-edge-slope-requires-2 c κs = search needs
+abbrev right : tie.After-edge-slope4 → tie.After-get2
+right c = c .before .before .before
 
 turned-requires : tie.Need-turned-requires
-turned-requires c κs = search needs
+turned-requires c κs =
+    let pre = called (ranked (left c)) .pre in (
+      small-edge (pre .0) _ (pre .2 .first) (pre .2 .pair .first) (c .before .edge-slope .ensures),
+      small-edge (pre .0) _ (pre .1 .second) (pre .1 .pair .second) (c .edge-slope2 .ensures),
+    )
 
 returns : tie.Need-returns
 returns c =
-    let at-v = c .before in
-    let at-p = at-v .before in
-    let at-if = at-p .before in
-    let rank-q = at-if .before in
-    let rank-p = rank-q .before in
-    let args = rank-p .before .before .before .before .args in
+    let slopes = c .before in
+    let ranks = left slopes in
+    let args = called (ranked ranks) .args in
     sideways-left (args .rank .now) (edge (args .parent .now) (args .rank .now) (args .rule)) (args .u) (args .v)
     (args .p) (args .q)
-    (rank-p .get .ensures .0) (rank-q .get2 .ensures .0) (at-if .if1 .taken)
-    (at-p .edge-slope .ensures .0) (at-v .edge-slope2 .ensures .0) (c .turned .ensures)
-
-edge-slope-requires-3 : tie.Need-edge-slope-requires-3
-edge-slope-requires-3 c κs = search needs
-
-edge-slope-requires-4 : tie.Need-edge-slope-requires-4
-edge-slope-requires-4 c κs = search needs
+    (ranked ranks .get .ensures .0) (ranks .get2 .ensures .0) (slopes .before .before .if1 .taken)
+    (slopes .before .edge-slope .ensures) (slopes .edge-slope2 .ensures) (c .turned .ensures)
 
 turned-requires-2 : tie.Need-turned-requires-2
-turned-requires-2 c κs = search needs
+turned-requires-2 c κs =
+    let pre = called (ranked (right c)) .pre in (
+      small-edge (pre .0) _ (pre .2 .second) (pre .2 .pair .second) (c .before .edge-slope3 .ensures),
+      small-edge (pre .0) _ (pre .1 .first) (pre .1 .pair .first) (c .edge-slope4 .ensures),
+    )
 
 returns-2 : tie.Need-returns-2
 returns-2 c =
-    let at-u = c .before in
-    let at-q = at-u .before in
-    let at-if = at-q .before in
-    let rank-q = at-if .before in
-    let rank-p = rank-q .before in
-    let args = rank-p .before .before .before .before .args in
+    let slopes = c .before in
+    let ranks = right slopes in
+    let args = called (ranked ranks) .args in
     sideways-right (args .rank .now) (edge (args .parent .now) (args .rank .now) (args .rule)) (args .u) (args .v)
     (args .p) (args .q)
-    (rank-p .get .ensures .0) (rank-q .get2 .ensures .0) (at-if .if1 .left)
-    (at-q .edge-slope3 .ensures .0) (at-u .edge-slope4 .ensures .0) (c .turned2 .ensures)
+    (ranked ranks .get .ensures .0) (ranks .get2 .ensures .0) (slopes .before .before .if1 .left)
+    (slopes .before .edge-slope3 .ensures) (slopes .edge-slope4 .ensures) (c .turned2 .ensures)
 
 pub sideways-of-spec : {M : Type 1} → statement M
 sideways-of-spec =
     tie.close
     (tie.spec
-    get-requires
-    get-requires-2
-    edge-slope-requires
-    edge-slope-requires-2
+    (λ c κs. search needs)
+    (λ c κs. search needs)
+    (λ c κs. search needs)
+    (λ c κs. search needs)
     turned-requires
     returns
-    edge-slope-requires-3
-    edge-slope-requires-4
+    (λ c κs. search needs)
+    (λ c κs. search needs)
     turned-requires-2
     returns-2)

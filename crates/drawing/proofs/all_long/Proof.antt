@@ -3,7 +3,7 @@ use mathlib.Core.Bool.{and-true}
 use mathlib.Core.Path.{sym, _∙_}
 use borrow.Author.Tests.{eq-eqb, ne-eqb}
 use Rattle.table.specs.Table.{allLong}
-use Rattle.drawing.proofs.Conjunction.{first-fails, first-holds}
+use Rattle.laws.specs.Tests.{first-fails, first-holds}
 use Rattle.drawing.proofs.all_long.Statement.{statement}
 use Rattle.drawing.proofs.all_long.Tie as tie
 

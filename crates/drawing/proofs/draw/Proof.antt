@@ -1,7 +1,7 @@
 -- The nodes with numbers above j are drawn.
 use native.Mathlib.Omega.{arith}
 use Rattle.drawing.specs.Drawing.{lent}
-use Rattle.drawing.proofs.Backward.{Backward, backward-start, backward-edge, backward-ready, backward-step}
+use Rattle.slopes.specs.Backward.{Backward, backward-start, backward-edge, backward-ready, backward-step}
 use Rattle.drawing.proofs.Laying.{Laying, laying-start, laying-x, laying-y, laying-step, laying-end}
 use Rattle.drawing.proofs.draw.Statement.{statement}
 use Rattle.drawing.proofs.draw.Tie as tie

@@ -6,81 +6,48 @@ use borrow.Author.Needs.{needs}
 use Rattle.drawing.proofs.layout_within.Statement.{statement}
 use Rattle.drawing.proofs.layout_within.Tie as tie
 
-prepare-requires : tie.Need-prepare-requires
-prepare-requires c κs = search needs
+abbrev called : tie.After-prepare → tie.Start
+called c = c .before .before .before .before .before .before .before .before .before .before .before
 
-enum-known-valid : tie.Need-enum-known-valid
-enum-known-valid c = search needs
-
-enum-told : tie.Need-enum-told
-enum-told c = search needs
+abbrev prepared : tie.After-enum-told → tie.After-prepare
+prepared c = c .before .before .before .before
 
 draw-requires : tie.Need-draw-requires
 draw-requires c κs =
-    let at-enum-told = c .before .before .before .before in
-    let at-prepare = at-enum-told .before .before .before .before in
-    let at-entry = at-prepare .before .before .before .before .before .before .before .before .before .before .before in
-    blank (at-prepare .prepare .ensures) (omega (arith, at-entry .good)) (at-entry .pre)
-    (at-enum-told .enum-told .given .1)
-
-frame-of-requires : tie.Need-frame-of-requires
-frame-of-requires c κs = search needs
-
-same-length : tie.Need-same-length
-same-length c = search needs
-
-same-length-2 : tie.Need-same-length-2
-same-length-2 c = search needs
-
-same-length-3 : tie.Need-same-length-3
-same-length-3 c = search needs
-
-same-length-4 : tie.Need-same-length-4
-same-length-4 c = search needs
+    let told = c .before .before .before .before in
+    let start = called (prepared told) in
+    blank (prepared told .prepare .ensures) (omega (arith, start .good)) (start .pre) (told .enum-told .given .1)
 
 returns : tie.Need-returns
 returns c =
-    let at-valid = c .before in
-    let at-prepare = at-valid .before .before .before .before in
-    laid-refused (at-prepare .prepare .ensures) (at-valid .valid .given .1)
-
-same-length-5 : tie.Need-same-length-5
-same-length-5 c = search needs
-
-same-length-6 : tie.Need-same-length-6
-same-length-6 c = search needs
-
-same-length-7 : tie.Need-same-length-7
-same-length-7 c = search needs
-
-same-length-8 : tie.Need-same-length-8
-same-length-8 c = search needs
+    let told = c .before in
+    let tested = told .before .before .before .before in
+    laid-refused (tested .prepare .ensures) _ (told .valid .given .1)
 
 returns-2 : tie.Need-returns-2
 unfolding frame
 returns-2 c =
-    let at-draw = c .before .before .before .before .before .before .before .before .before in
-    let at-enum-told = at-draw .before .before .before .before .before in
-    let at-prepare = at-enum-told .before .before .before .before in
-    laid-fresh (at-prepare .prepare .ensures) (at-enum-told .enum-told .given .1) (at-draw .draw .ensures)
+    let drawn = c .before .before .before .before .before .before .before .before .before in
+    let told = drawn .before .before .before .before .before in
+    laid-fresh (prepared told .prepare .ensures) _ (told .enum-told .given .1) (drawn .draw .ensures)
     (c .frame-of .ensures)
 
 pub layout-within-spec : {M : Type 1} → statement M
 layout-within-spec =
     tie.close
     (tie.spec
-    prepare-requires
-    enum-known-valid
-    enum-told
+    (λ c κs. search needs)
+    (λ c. search needs)
+    (λ c. search needs)
     draw-requires
-    frame-of-requires
-    same-length
-    same-length-2
-    same-length-3
-    same-length-4
+    (λ c κs. search needs)
+    (λ c. search needs)
+    (λ c. search needs)
+    (λ c. search needs)
+    (λ c. search needs)
     returns
-    same-length-5
-    same-length-6
-    same-length-7
-    same-length-8
+    (λ c. search needs)
+    (λ c. search needs)
+    (λ c. search needs)
+    (λ c. search needs)
     returns-2)

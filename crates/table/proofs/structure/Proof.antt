@@ -35,7 +35,7 @@ occupy-requires c κs =
       (
         scratch-kept (scratch-of (at-entry .pre) (at-stray-parent .stray-parent .ensures) (at-if1 .if1 .left))
             (at-starts .starts .ensures .2 .long),
-        at-entry .pre .ranks,
+        at-entry .pre .lengths .ranks,
       ),
       (at-starts .starts .ensures .0, at-starts .starts .ensures .1),
     )
@@ -50,7 +50,7 @@ bad-rank-requires c κs =
       (
         scratch-kept (scratch-of (at-entry .pre) (at-stray-parent .stray-parent .ensures) (at-if1 .if1 .left))
             (at-occupy .occupy .ensures .1 .long ∙ at-starts .starts .ensures .2 .long),
-        at-entry .pre .ranks,
+        at-entry .pre .lengths .ranks,
       ),
       (
         started-kept (at-entry .pre) (at-stray-parent .stray-parent .ensures) (at-if1 .if1 .left)

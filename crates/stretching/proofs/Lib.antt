@@ -1,0 +1,4 @@
+pub mod Fitting
+pub mod Examining
+pub mod Subtrees
+pub mod Outcomes

@@ -1,0 +1,58 @@
+-- Refusals 1 to 7, then 8.
+use native.Mathlib.Omega.{arith}
+use borrow.Author.Needs.{needs}
+use Rattle.drawing.specs.Parts.{sized}
+use Rattle.stretching.proofs.Examining.{inspecting-table, inspecting-8, inspecting-all}
+use Rattle.stretching.proofs.inspect.Statement.{statement}
+use Rattle.stretching.proofs.inspect.Tie as tie
+
+abbrev prepared : tie.After-enum-told → tie.After-prepare
+prepared c = c .before .before .before .before
+
+abbrev told : tie.After-first-misfit → tie.After-enum-told
+told c = c .before .before
+
+first-misfit-requires : tie.Need-first-misfit-requires
+first-misfit-requires c κs =
+    let accepted = c .before in
+    sized (prepared accepted .prepare .ensures) (accepted .enum-told .given .1)
+
+cast-t21 : tie.Need-cast-t21
+cast-t21 c =
+    let accepted = told (c .before) in
+    let few = sized (prepared accepted .prepare .ensures) (accepted .enum-told .given .1) .numbered .few in
+    omega arith
+
+returns : tie.Need-returns
+returns c =
+    let found = c .before in
+    inspecting-8 _ (prepared (told found) .prepare .ensures) (told found .enum-told .given .1)
+    (found .first-misfit .ensures) (c .if1 .taken)
+
+returns-2 : tie.Need-returns-2
+returns-2 c =
+    let refused = c .before in
+    inspecting-table _ (refused .before .before .before .before .prepare .ensures) (refused .valid .given .1)
+
+returns-3 : tie.Need-returns-3
+returns-3 c =
+    let found = c .before in
+    inspecting-all _ (prepared (told found) .prepare .ensures) (told found .enum-told .given .1)
+    (found .first-misfit .ensures) (c .if1 .left)
+
+pub inspect-spec : {M : Type 1} → statement M
+inspect-spec =
+    tie.close
+    (tie.spec
+    (λ c. search needs)
+    (λ c κs. search needs)
+    (λ c. search needs)
+    (λ c. search needs)
+    first-misfit-requires
+    cast-t21
+    (λ c. search needs)
+    returns
+    (λ c. search needs)
+    returns-2
+    (λ c. search needs)
+    returns-3)

@@ -1,0 +1,79 @@
+-- Refusals 1 to 10, then the limit, then the longer drawing.
+use native.Mathlib.Omega.{arith}
+use borrow.Author.Needs.{needs}
+use Rattle.stretching.proofs.Outcomes.{examined-of, lengthened-refused, lengthened-beyond, can-lengthen}
+use Rattle.stretching.proofs.Outcomes.{lengthened}
+use Rattle.stretching.proofs.lengthen_within.Statement.{statement}
+use Rattle.stretching.proofs.lengthen_within.Tie as tie
+
+abbrev called : tie.After-examine → tie.Start
+called c = c .before .before .before .before .before .before .before .before .before .before .before .before
+
+abbrev examined : tie.After-enum-told → tie.After-examine
+examined c = c .before .before .before .before
+
+abbrev told : tie.After-too-far → tie.After-enum-told
+told c = c .before .before .before .before .before
+
+abbrev tested : tie.After-stretch → tie.Else1
+tested c = c .before .before .before .before .before
+
+too-far-requires : tie.Need-too-far-requires
+too-far-requires c κs =
+    let accepted = c .before .before .before .before in
+    let exam = examined accepted .examine .ensures in
+    let x = examined-of _ _ exam (accepted .enum-told .given .1) in
+    (exam .left (accepted .enum-told .given .1) .numbered, x .inspected .drawn, x .above, x .inside)
+
+returns : tie.Need-returns
+returns c =
+    let far = c .before in
+    lengthened-beyond _ _ (examined (told far) .examine .ensures) _ (told far .enum-told .given .1)
+    (far .too-far .ensures) (c .if1 .taken)
+
+stretch-requires : tie.Need-stretch-requires
+stretch-requires c κs =
+    let near = c .before .before .before .before in
+    let far = near .before in
+    let exam = examined (told far) in
+    can-lengthen _ _ (exam .examine .ensures) _ (told far .enum-told .given .1) (omega (arith, called exam .good))
+    (far .too-far .ensures) (near .if1 .left)
+
+returns-2 : tie.Need-returns-2
+returns-2 c =
+    let refused = c .before in
+    lengthened-refused _ _ (refused .before .before .before .before .examine .ensures) _ (refused .verdict .given .1)
+
+returns-3 : tie.Need-returns-3
+returns-3 c =
+    let new = c .before .before .before .before .before .before in
+    let near = tested new in
+    let far = near .before in
+    lengthened _ _ (examined (told far) .examine .ensures) _ (told far .enum-told .given .1) (far .too-far .ensures)
+    (near .if1 .left) (new .stretch .ensures)
+
+pub lengthen-within-spec : {M : Type 1} → statement M
+lengthen-within-spec =
+    tie.close
+    (tie.spec
+    (λ c. search needs)
+    (λ c κs. search needs)
+    (λ c. search needs)
+    (λ c. search needs)
+    too-far-requires
+    (λ c. search needs)
+    (λ c. search needs)
+    (λ c. search needs)
+    (λ c. search needs)
+    returns
+    stretch-requires
+    (λ c. search needs)
+    (λ c. search needs)
+    (λ c. search needs)
+    (λ c. search needs)
+    returns-2
+    (λ c. search needs)
+    (λ c. search needs)
+    (λ c. search needs)
+    (λ c. search needs)
+    returns-3)

@@ -1,0 +1,108 @@
+-- The places of the subtree up to number j are within the limit.
+use Prim.Native.Nat.{_-_}
+use native.Mathlib.Omega.{arith}
+use Rattle.stretching.proofs.Subtrees.{Clear, first-some, walk-node, clear-start, clear-step, clear-end}
+use Rattle.stretching.proofs.Subtrees.{passes-yes}
+use Rattle.stretching.proofs.passes.Statement.{statement}
+use Rattle.stretching.proofs.passes.Tie as tie
+
+abbrev Inv-loop : tie.InvT-loop
+Inv-loop limit parent rank work places v d n last j₀ j = Clear limit parent rank work places v d last j
+
+abbrev μ-loop : tie.MeasureT-loop
+μ-loop limit parent rank work places v d n last j₀ j = last - j
+
+get-requires : tie.Need-get-requires Inv-loop μ-loop
+get-requires c κs = omega arith
+
+mul-get : tie.Need-mul-get Inv-loop μ-loop
+mul-get c = omega arith
+
+add-get : tie.Need-add-get Inv-loop μ-loop
+add-get c = omega arith
+
+get-requires-2 : tie.Need-get-requires-2 Inv-loop μ-loop
+get-requires-2 c κs = omega arith
+
+sub-j : tie.Need-sub-j Inv-loop μ-loop
+sub-j c =
+    let at-entry = c .before .before .before .before .before .before in
+    first-some (at-entry .pre .0) _ (at-entry .pre .2) (c .get2 .ensures .0)
+
+loop-holds : tie.Need-loop-holds Inv-loop μ-loop
+loop-holds c =
+    let at-get = c .before in
+    let at-entry = at-get .before .before .before .before .before in
+    clear-start _ _ _ (at-entry .pre .0) (at-entry .pre .1) (at-entry .pre .2) (at-get .get .ensures .0)
+    (c .get2 .ensures .0)
+
+mul-get-2 : tie.Need-mul-get-2 Inv-loop μ-loop
+mul-get-2 c = omega arith
+
+add-get-2 : tie.Need-add-get-2 Inv-loop μ-loop
+add-get-2 c = omega arith
+
+get-requires-3 : tie.Need-get-requires-3 Inv-loop μ-loop
+get-requires-3 c κs = omega arith
+
+get-requires-4 : tie.Need-get-requires-4 Inv-loop μ-loop
+get-requires-4 c κs =
+    let at-loop-test = c .before in
+    let at-loop = at-loop-test .before in
+    let node = walk-node (at-loop .loop .inv .walk) (at-loop-test .loop-test .taken) (c .get3 .ensures .0) in
+    omega arith
+
+add-if1 : tie.Need-add-if1 Inv-loop μ-loop
+add-if1 c = omega arith
+
+returns : tie.Need-returns Inv-loop μ-loop
+returns c =
+    let at-get4 = c .before in
+    let at-get3 = at-get4 .before in
+    let at-loop-test = at-get3 .before in
+    let at-loop = at-loop-test .before in
+    let node = walk-node (at-loop .loop .inv .walk) (at-loop-test .loop-test .taken) (at-get3 .get3 .ensures .0) in
+    passes-yes node (at-get4 .get4 .ensures .0) (c .if1 .taken)
+
+add-j : tie.Need-add-j Inv-loop μ-loop
+add-j c = omega arith
+
+loop-less : tie.Need-loop-less Inv-loop μ-loop
+loop-less c = omega arith
+
+loop-again : tie.Need-loop-again Inv-loop μ-loop
+loop-again c =
+    let at-get4 = c .before in
+    let at-get3 = at-get4 .before in
+    let at-loop-test = at-get3 .before in
+    let at-loop = at-loop-test .before in
+    let node = walk-node (at-loop .loop .inv .walk) (at-loop-test .loop-test .taken) (at-get3 .get3 .ensures .0) in
+    clear-step (at-loop .loop .inv) (at-loop-test .loop-test .taken) node (at-get4 .get4 .ensures .0) (c .if1 .left)
+
+returns-2 : tie.Need-returns-2 Inv-loop μ-loop
+returns-2 c =
+    let at-loop = c .before in
+    clear-end (at-loop .loop .inv) (c .loop-test .left)
+
+pub passes-spec : {M : Type 1} → statement M
+passes-spec =
+    tie.close
+    (tie.spec
+    Inv-loop
+    μ-loop
+    get-requires
+    mul-get
+    add-get
+    get-requires-2
+    sub-j
+    loop-holds
+    mul-get-2
+    add-get-2
+    get-requires-3
+    get-requires-4
+    add-if1
+    returns
+    add-j
+    loop-less
+    loop-again
+    returns-2)

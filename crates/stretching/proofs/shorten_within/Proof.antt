@@ -1,0 +1,74 @@
+-- Refusals 1 to 10, then 12, then the shorter drawing.
+use native.Mathlib.Omega.{arith}
+use borrow.Author.Needs.{needs}
+use Rattle.stretching.proofs.Outcomes.{examined-of, shortened-refused, shortened-12, can-shorten, shortened}
+use Rattle.stretching.proofs.shorten_within.Statement.{statement}
+use Rattle.stretching.proofs.shorten_within.Tie as tie
+
+abbrev examined : tie.After-enum-told → tie.After-examine
+examined c = c .before .before .before .before
+
+abbrev told : tie.After-get → tie.After-enum-told
+told c = c .before .before
+
+abbrev tested : tie.After-stretch → tie.Else1
+tested c = c .before .before .before .before .before
+
+get-requires : tie.Need-get-requires
+get-requires c κs =
+    let accepted = c .before in
+    let x = examined-of _ _ (examined accepted .examine .ensures) (accepted .enum-told .given .1) in
+    let inside = x .inside in
+    let long = x .inspected .drawn .long in
+    omega arith
+
+returns : tie.Need-returns
+returns c =
+    let times = c .before in
+    shortened-12 _ _ (examined (told times) .examine .ensures) _ (told times .enum-told .given .1)
+    (times .get .ensures .0) (c .if1 .taken)
+
+stretch-requires : tie.Need-stretch-requires
+stretch-requires c κs =
+    let more = c .before .before .before .before in
+    let times = more .before in
+    can-shorten _ _ (examined (told times) .examine .ensures) _ (told times .enum-told .given .1)
+    (times .get .ensures .0) (more .if1 .left)
+
+returns-2 : tie.Need-returns-2
+returns-2 c =
+    let refused = c .before in
+    shortened-refused _ _ (refused .before .before .before .before .examine .ensures) _ (refused .verdict .given .1)
+
+returns-3 : tie.Need-returns-3
+returns-3 c =
+    let new = c .before .before .before .before .before .before in
+    let more = tested new in
+    let times = more .before in
+    shortened _ _ (examined (told times) .examine .ensures) _ (told times .enum-told .given .1)
+    (times .get .ensures .0) (more .if1 .left) (new .stretch .ensures)
+
+pub shorten-within-spec : {M : Type 1} → statement M
+shorten-within-spec =
+    tie.close
+    (tie.spec
+    (λ c κs. search needs)
+    (λ c. search needs)
+    (λ c. search needs)
+    get-requires
+    (λ c. search needs)
+    (λ c. search needs)
+    (λ c. search needs)
+    (λ c. search needs)
+    returns
+    stretch-requires
+    (λ c. search needs)
+    (λ c. search needs)
+    (λ c. search needs)
+    (λ c. search needs)
+    returns-2
+    (λ c. search needs)
+    (λ c. search needs)
+    (λ c. search needs)
+    (λ c. search needs)
+    returns-3)

@@ -1,0 +1,4 @@
+pub mod Stretching
+pub mod StretchLaws
+pub mod CallLaws
+pub mod Parts

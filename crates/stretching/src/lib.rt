@@ -1,0 +1,480 @@
+// Lengthen and shorten (document 01, "Layout, lengthen, shorten").
+//
+// Both are one move with a sign: `longer` says which.
+use drawing::Framed;
+use drawing::frame_of;
+use drawing::prepare;
+use slopes::Rule;
+use slopes::Slope;
+use slopes::bordered_at;
+use slopes::edge_slope;
+use slopes::slope_before;
+use table::Limits;
+use table::Validity;
+use table::get;
+use table::large_limits;
+use table::node_at;
+use table::put;
+ghost use mathlib.Core.Bool.{true, false};
+ghost use mathlib.Core.Path.{_≡_};
+ghost use Prim.Native.Nat.{_+_, _*_, _^_, _≤_, _<_};
+ghost use lib.ListN.{length, getD};
+ghost use Rattle.laws.specs.Search.{least};
+ghost use Rattle.table.specs.Numbering.{NumberedTree};
+ghost use Rattle.table.specs.Table.{large};
+ghost use Rattle.slopes.specs.Slopes.{edge};
+ghost use Rattle.drawing.specs.Drawing.{lent, nodeFits, OnDrawing};
+ghost use Rattle.drawing.specs.DrawingLaws.{Drawn};
+ghost use Rattle.drawing.specs.Parts.{Sized};
+ghost use Rattle.stretching.specs.Stretching.{moved, beyond, lengthen, shorten};
+ghost use Rattle.stretching.specs.StretchLaws.{longer};
+ghost use Rattle.stretching.specs.Parts.{by, placedFrom, rootFits, misfit, AllFit, Inspecting, Examining};
+ghost use Rattle.stretching.specs.Parts.{Passes, Movable, Stretchable, Stretched};
+
+// Whether v is at its parent's place p and `step` more, and within the limit.
+fn placed(limit: usize, places: &[u32], p: usize, v: usize, step: usize) -> bool
+    requires { ⌜ (p < length (now places)) × (v < length (now places)) × (step + 2 ^ 32 ≤ 2 ^ 64) ⌝ }
+    ensures { λ r. ⌜ r ≡ placedFrom limit (now (places .entry)) p v step ⌝ }
+{
+    let place = get(places, v);
+    if place != get(places, p) + step {
+        return false;
+    }
+    place <= limit
+}
+
+// Whether the root has times 1 and place (0, 0).
+fn root_fits(times: &[u32], x: &[u32], y: &[u32]) -> bool
+    requires { ⌜ (0 < length (now times)) × (0 < length (now x)) × (0 < length (now y)) ⌝ }
+    ensures { λ r. ⌜ r ≡ rootFits (lent (now (times .entry)) (now (x .entry)) (now (y .entry))) ⌝ }
+{
+    if get(times, 0) != 1 {
+        return false;
+    }
+    if get(x, 0) != 0 {
+        return false;
+    }
+    get(y, 0) == 0
+}
+
+// d more or d less than a.
+fn changed(a: usize, d: usize, longer: bool) -> usize
+    requires { ⌜ ((longer ≡ true → a + d < 2 ^ 64)) × ((longer ≡ false → d ≤ a)) ⌝ }
+    ensures { λ r. ⌜ r ≡ by longer a d ⌝ }
+{
+    if longer { a + d } else { a - d }
+}
+
+// `count` times a part of a slope: with room for a place in 64 bits.
+fn product(count: usize, part: u32) -> usize
+    requires { ⌜ count < 2 ^ 32 ⌝ }
+    ensures { λ r. ⌜ (r ≡ count * part) × (r + 2 ^ 32 ≤ 2 ^ 64) ⌝ }
+{
+    count * part as usize
+}
+
+// Whether times and place of v, other than the root, are right against its parent's place, and within the limit.
+fn node_fits(
+    limit: usize,
+    rule: Rule,
+    parent: &[u32],
+    rank: &[u32],
+    times: &[u32],
+    x: &[u32],
+    y: &[u32],
+    work: &[u32],
+    v: usize,
+    slope: Slope,
+) -> bool
+    requires { ⌜ Sized (now parent) (now rank) (lent (now times) (now x) (now y)) (now work)
+        × (0 < v) × (v < length (now parent)) × (slope ≡ edge (now parent) (now rank) rule v) ⌝ }
+    ensures { λ r. ⌜ r ≡ nodeFits limit (now (parent .entry)) (now (rank .entry)) rule
+        (lent (now (times .entry)) (now (x .entry)) (now (y .entry))) v ⌝ }
+{
+    let t = get(times, v);
+    if t < 1 {
+        return false;
+    }
+    let p = get(parent, v);
+    let right = placed(limit, x, p, v, product(t, slope.across));
+    if !right {
+        return false;
+    }
+    placed(limit, y, p, v, product(t, slope.up))
+}
+
+// The smallest node with refusal 8, or n, where the root fits: node by node, each with a slope found by itself.
+fn misfit_by_node(
+    limit: usize,
+    rule: Rule,
+    parent: &[u32],
+    rank: &[u32],
+    times: &[u32],
+    x: &[u32],
+    y: &[u32],
+    work: &[u32],
+) -> usize
+    requires { ⌜ Sized (now parent) (now rank) (lent (now times) (now x) (now y)) (now work)
+        × (rootFits (lent (now times) (now x) (now y)) ≡ true) ⌝ }
+    ensures { λ r. ⌜ r ≡ least (misfit limit (now (parent .entry)) (now (rank .entry)) rule
+        (lent (now (times .entry)) (now (x .entry)) (now (y .entry)))) (length (now (parent .entry))) ⌝ }
+{
+    let n = parent.len();
+    let mut v = 1;
+    while v < n {
+        let slope = edge_slope(rule, parent, rank, work, v);
+        let fits = node_fits(limit, rule, parent, rank, times, x, y, work, v, slope);
+        if !fits {
+            return v;
+        }
+        v += 1;
+    }
+    n
+}
+
+// Whether all nodes fit, where the root does: in reverse post-order, each with a slope that is told by the two after it.
+fn all_fit(
+    limit: usize,
+    rule: Rule,
+    parent: &[u32],
+    rank: &[u32],
+    times: &[u32],
+    x: &[u32],
+    y: &[u32],
+    work: &[u32],
+) -> bool
+    requires { ⌜ Sized (now parent) (now rank) (lent (now times) (now x) (now y)) (now work)
+        × (rootFits (lent (now times) (now x) (now y)) ≡ true) ⌝ }
+    ensures { λ r. ⌜ AllFit limit (now (parent .entry)) (now (rank .entry)) rule
+        (lent (now (times .entry)) (now (x .entry)) (now (y .entry))) r ⌝ }
+{
+    let n = parent.len();
+    let mut here = bordered_at(rule, n, n - 1);
+    let mut after = bordered_at(rule, n, n);
+    let mut j = n - 1;
+    while 0 < j {
+        let v = node_at(parent, rank, work, j);
+        let fits = node_fits(limit, rule, parent, rank, times, x, y, work, v, here);
+        if !fits {
+            return false;
+        }
+        let before = slope_before(rule, n, j, here, after);
+        after = here;
+        here = before;
+        j -= 1;
+    }
+    true
+}
+
+// The smallest node with refusal 8, or n. A steep slope is told by its number alone; balanced ones are quicker in order,
+// and node by node only where some node doesn't fit.
+fn first_misfit(
+    limit: usize,
+    rule: Rule,
+    parent: &[u32],
+    rank: &[u32],
+    times: &[u32],
+    x: &[u32],
+    y: &[u32],
+    work: &[u32],
+) -> usize
+    requires { ⌜ Sized (now parent) (now rank) (lent (now times) (now x) (now y)) (now work) ⌝ }
+    ensures { λ r. ⌜ r ≡ least (misfit limit (now (parent .entry)) (now (rank .entry)) rule
+        (lent (now (times .entry)) (now (x .entry)) (now (y .entry)))) (length (now (parent .entry))) ⌝ }
+{
+    let root = root_fits(times, x, y);
+    if !root {
+        return 0;
+    }
+    match rule {
+        Rule::Steep => misfit_by_node(limit, rule, parent, rank, times, x, y, work),
+        Rule::Balanced => {
+            let fit = all_fit(limit, rule, parent, rank, times, x, y, work);
+            if fit {
+                return parent.len();
+            }
+            misfit_by_node(limit, rule, parent, rank, times, x, y, work)
+        }
+    }
+}
+
+// Refusals 1 to 8 of a call on a drawing; an accepted table is numbered.
+pub fn inspect(
+    limits: Limits,
+    rule: Rule,
+    parent: &[u32],
+    rank: &[u32],
+    times: &[u32],
+    x: &[u32],
+    y: &[u32],
+    work: &mut [u32],
+) -> Validity
+    ensures { λ r. ⌜ Inspecting limits (now (parent .entry)) (now (rank .entry)) rule
+        (lent (now (times .entry)) (now (x .entry)) (now (y .entry))) (now (work .entry)) (now (work .exit)) r ⌝ }
+{
+    let n = parent.len();
+    let place = limits.place as usize;
+    let valid = prepare(limits, parent, rank, times, x, y, work);
+    match valid {
+        Validity::Refused(k, v) => Validity::Refused(k, v),
+        Validity::Accepted => {
+            let v = first_misfit(place, rule, parent, rank, times, x, y, work);
+            if v < n {
+                return Validity::Refused(8, v as u32);
+            }
+            Validity::Accepted
+        }
+    }
+}
+
+// Refusals 1 to 10 of a call on the edge of `lot`; an accepted table is numbered.
+fn examine(
+    limits: Limits,
+    rule: Rule,
+    parent: &[u32],
+    rank: &[u32],
+    times: &[u32],
+    x: &[u32],
+    y: &[u32],
+    work: &mut [u32],
+    lot: u32,
+) -> Validity
+    ensures { λ r. ⌜ Examining limits (now (parent .entry)) (now (rank .entry)) rule
+        (lent (now (times .entry)) (now (x .entry)) (now (y .entry))) (now (work .entry)) lot (now (work .exit)) r ⌝ }
+{
+    let n = parent.len();
+    let valid = inspect(limits, rule, parent, rank, times, x, y, work);
+    match valid {
+        Validity::Refused(k, v) => Validity::Refused(k, v),
+        Validity::Accepted => {
+            if n <= lot as usize {
+                return Validity::Refused(9, 0);
+            }
+            if lot == 0 {
+                return Validity::Refused(10, 0);
+            }
+            Validity::Accepted
+        }
+    }
+}
+
+// Whether some place of v's subtree would be beyond the limit when it is moved on by d.
+fn passes(
+    limit: usize,
+    parent: &[u32],
+    rank: &[u32],
+    work: &[u32],
+    places: &[u32],
+    v: usize,
+    d: usize,
+) -> bool
+    requires { ⌜ NumberedTree (now parent) (now rank) (now work) × (length (now places) ≡ length (now parent))
+        × (v < length (now parent)) × (d + 2 ^ 32 ≤ 2 ^ 64) ⌝ }
+    ensures { λ r. ⌜ Passes limit (now (parent .entry)) (now (places .entry)) v d r ⌝ }
+{
+    let n = parent.len();
+    let last = get(work, v);
+    let mut j = get(work, 2 * n + v) - 1;
+    while j < last {
+        let z = get(work, 3 * n + j);
+        if limit < get(places, z) + d {
+            return true;
+        }
+        j += 1;
+    }
+    false
+}
+
+// Moves v's subtree on, or back, by d.
+fn move_subtree(
+    parent: &[u32],
+    rank: &[u32],
+    work: &[u32],
+    places: &mut [u32],
+    v: usize,
+    d: usize,
+    longer: bool,
+)
+    requires { ⌜ NumberedTree (now parent) (now rank) (now work) × Movable (now parent) (now places) v d longer
+        × (v < length (now parent)) ⌝ }
+    ensures { λ _. ⌜ now (places .exit) ≡ moved (now (parent .entry)) (λ a. by longer a d) v (now (places .entry)) ⌝ }
+{
+    let n = parent.len();
+    let last = get(work, v);
+    let mut j = get(work, 2 * n + v) - 1;
+    while j < last {
+        let z = get(work, 3 * n + j);
+        let place = get(places, z);
+        put(places, z, changed(place, d, longer));
+        j += 1;
+    }
+}
+
+// Whether some place of the drawing with v's edge longer would be beyond the limit.
+fn too_far(
+    limit: usize,
+    rule: Rule,
+    parent: &[u32],
+    rank: &[u32],
+    times: &[u32],
+    x: &[u32],
+    y: &[u32],
+    work: &[u32],
+    v: usize,
+    count: u32,
+) -> bool
+    requires { ⌜ NumberedTree (now parent) (now rank) (now work)
+        × Drawn limit (now parent) (now rank) rule (lent (now times) (now x) (now y))
+        × (0 < v) × (v < length (now parent)) ⌝ }
+    ensures { λ r. ⌜ r ≡ beyond limit (length (now (parent .entry)))
+        (longer (now (parent .entry)) (now (rank .entry)) rule
+        (lent (now (times .entry)) (now (x .entry)) (now (y .entry))) v count) ⌝ }
+{
+    let c = count as usize;
+    let slope = edge_slope(rule, parent, rank, work, v);
+    let wide = passes(limit, parent, rank, work, x, v, product(c, slope.across));
+    if wide {
+        return true;
+    }
+    passes(limit, parent, rank, work, y, v, product(c, slope.up))
+}
+
+// Makes v's edge longer or shorter, moves its subtree along, and returns the frame.
+fn stretch(
+    rule: Rule,
+    parent: &[u32],
+    rank: &[u32],
+    times: &mut [u32],
+    x: &mut [u32],
+    y: &mut [u32],
+    work: &[u32],
+    v: usize,
+    count: u32,
+    longer: bool,
+) -> Framed
+    requires { ⌜ Stretchable (now parent) (now rank) rule (lent (now times) (now x) (now y)) (now work)
+        v count longer ⌝ }
+    ensures { λ r. ⌜ Stretched (now (parent .entry)) (now (rank .entry)) rule
+        (lent (now (times .entry)) (now (x .entry)) (now (y .entry))) v count longer
+        (lent (now (times .exit)) (now (x .exit)) (now (y .exit))) r ⌝ }
+{
+    let c = count as usize;
+    let slope = edge_slope(rule, parent, rank, work, v);
+    move_subtree(parent, rank, work, x, v, product(c, slope.across), longer);
+    move_subtree(parent, rank, work, y, v, product(c, slope.up), longer);
+    let t = get(times, v);
+    put(times, v, changed(t, c, longer));
+    frame_of(x, y)
+}
+
+// Lengthen at any limits.
+pub fn lengthen_within(
+    limits: Limits,
+    rule: Rule,
+    parent: &[u32],
+    rank: &[u32],
+    times: &mut [u32],
+    x: &mut [u32],
+    y: &mut [u32],
+    work: &mut [u32],
+    lot: u32,
+    count: u32,
+) -> Framed
+    ensures { λ r. ⌜ OnDrawing limits (now (parent .entry)) (now (rank .entry))
+        (lent (now (times .entry)) (now (x .entry)) (now (y .entry))) (now (work .entry))
+        (lent (now (times .exit)) (now (x .exit)) (now (y .exit))) (now (work .exit)) r
+        (lengthen limits (now (parent .entry)) (now (rank .entry)) rule
+        (lent (now (times .entry)) (now (x .entry)) (now (y .entry))) (length (now (work .entry))) lot count) ⌝ }
+{
+    let place = limits.place as usize;
+    let verdict = examine(limits, rule, parent, rank, times, x, y, work, lot);
+    match verdict {
+        Validity::Refused(k, v) => Framed::Refused(k, v),
+        Validity::Accepted => {
+            let v = lot as usize;
+            let far = too_far(place, rule, parent, rank, times, x, y, work, v, count);
+            if far {
+                return Framed::Refused(limits.far, lot);
+            }
+            stretch(rule, parent, rank, times, x, y, work, v, count, true)
+        }
+    }
+}
+
+// Shorten at any limits.
+pub fn shorten_within(
+    limits: Limits,
+    rule: Rule,
+    parent: &[u32],
+    rank: &[u32],
+    times: &mut [u32],
+    x: &mut [u32],
+    y: &mut [u32],
+    work: &mut [u32],
+    lot: u32,
+    count: u32,
+) -> Framed
+    ensures { λ r. ⌜ OnDrawing limits (now (parent .entry)) (now (rank .entry))
+        (lent (now (times .entry)) (now (x .entry)) (now (y .entry))) (now (work .entry))
+        (lent (now (times .exit)) (now (x .exit)) (now (y .exit))) (now (work .exit)) r
+        (shorten limits (now (parent .entry)) (now (rank .entry)) rule
+        (lent (now (times .entry)) (now (x .entry)) (now (y .entry))) (length (now (work .entry))) lot count) ⌝ }
+{
+    let verdict = examine(limits, rule, parent, rank, times, x, y, work, lot);
+    match verdict {
+        Validity::Refused(k, v) => Framed::Refused(k, v),
+        Validity::Accepted => {
+            let v = lot as usize;
+            if get(times, v) <= count as usize {
+                return Framed::Refused(12, lot);
+            }
+            stretch(rule, parent, rank, times, x, y, work, v, count, false)
+        }
+    }
+}
+
+// Makes the edge of `lot` longer by `count` times its slope, moves the lot's subtree along and returns the frame; on a
+// refusal the drawing stays as it was.
+pub fn lengthen(
+    rule: Rule,
+    parent: &[u32],
+    rank: &[u32],
+    times: &mut [u32],
+    x: &mut [u32],
+    y: &mut [u32],
+    work: &mut [u32],
+    lot: u32,
+    count: u32,
+) -> Framed
+    ensures { λ r. ⌜ OnDrawing large (now (parent .entry)) (now (rank .entry))
+        (lent (now (times .entry)) (now (x .entry)) (now (y .entry))) (now (work .entry))
+        (lent (now (times .exit)) (now (x .exit)) (now (y .exit))) (now (work .exit)) r
+        (lengthen large (now (parent .entry)) (now (rank .entry)) rule
+        (lent (now (times .entry)) (now (x .entry)) (now (y .entry))) (length (now (work .entry))) lot count) ⌝ }
+{
+    let limits = large_limits();
+    lengthen_within(limits, rule, parent, rank, times, x, y, work, lot, count)
+}
+
+// Makes the edge of `lot` shorter by `count` times its slope, moves the lot's subtree back and returns the frame; on a
+// refusal the drawing stays as it was.
+pub fn shorten(
+    rule: Rule,
+    parent: &[u32],
+    rank: &[u32],
+    times: &mut [u32],
+    x: &mut [u32],
+    y: &mut [u32],
+    work: &mut [u32],
+    lot: u32,
+    count: u32,
+) -> Framed
+    ensures { λ r. ⌜ OnDrawing large (now (parent .entry)) (now (rank .entry))
+        (lent (now (times .entry)) (now (x .entry)) (now (y .entry))) (now (work .entry))
+        (lent (now (times .exit)) (now (x .exit)) (now (y .exit))) (now (work .exit)) r
+        (shorten large (now (parent .entry)) (now (rank .entry)) rule
+        (lent (now (times .entry)) (now (x .entry)) (now (y .entry))) (length (now (work .entry))) lot count) ⌝ }
+{
+    let limits = large_limits();
+    shorten_within(limits, rule, parent, rank, times, x, y, work, lot, count)
+}
