@@ -6,20 +6,8 @@ use Rattle.monotone.proofs.Wide.{zero-bits, bits-zero}
 use Rattle.monotone.proofs.alone.Statement.{statement}
 use Rattle.monotone.proofs.alone.Tie as tie
 
-mul-result : tie.Need-mul-result
-mul-result c = search needs
-
-add-result : tie.Need-add-result
-add-result c = search needs
-
 returns : tie.Need-returns
 returns c = one (λ h. c .if1 .taken (bits-zero _ (h .0))) refl
-
-mul-result-2 : tie.Need-mul-result-2
-mul-result-2 c = search needs
-
-add-result-2 : tie.Need-add-result-2
-add-result-2 c = search needs
 
 returns-2 : tie.Need-returns-2
 returns-2 c = one (λ h. c .if2 .taken (bits-zero _ (h .1))) refl
@@ -31,4 +19,7 @@ returns-3 c =
     none (zero-bits _ (near .across-near) (c .before .if1 .left), zero-bits _ (near .up-near) (c .if2 .left)) refl
 
 pub alone-spec : {M : Type 1} → statement M
-alone-spec = tie.close (tie.spec mul-result add-result returns mul-result-2 add-result-2 returns-2 returns-3)
+alone-spec = tie.close (tie.spec (λ c. search needs) (λ c. search needs)
+    returns (λ c. search needs) (λ c. search needs)
+    returns-2
+    returns-3)

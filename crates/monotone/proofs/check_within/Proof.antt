@@ -12,18 +12,6 @@ use Rattle.monotone.proofs.Judging.{checked-table, checked-far, checked
 use Rattle.monotone.proofs.check_within.Statement.{statement}
 use Rattle.monotone.proofs.check_within.Tie as tie
 
-both-long-requires : tie.Need-both-long-requires
-both-long-requires c κs = search needs
-
-validate-requires : tie.Need-validate-requires
-validate-requires c κs = search needs
-
-enum-known-number : tie.Need-enum-known-number
-enum-known-number c = search needs
-
-enum-told : tie.Need-enum-told
-enum-told c = search needs
-
 -- what `validate` and `both_long` say
 module _ (c : tie.After-validate) where
   abbrev lengths : tie.After-both-long
@@ -65,9 +53,6 @@ cast-t17 c =
     let few = few-nodes (at .args .x .now) (at .args .y .now) (same (checked told)) (accepted told) (at .pre .0) in
     omega arith
 
-same-length : tie.Need-same-length
-same-length c = search needs
-
 returns : tie.Need-returns
 returns c =
     let told = c .before .before in
@@ -83,18 +68,12 @@ judge-requires c κs =
     judged (at .args .x .now) (at .args .y .now) (same (checked told)) (accepted told) (test .before .too-far .ensures)
     (test .if1 .left) (at .pre .0) (at .pre .1)
 
-same-length-2 : tie.Need-same-length-2
-same-length-2 c = search needs
-
 returns-2 : tie.Need-returns-2
 returns-2 c =
     let told = c .before in
     let valid = told .before .before .before .before in
     let at = start valid .args in
     checked-table (at .x .now) (at .y .now) (same valid) (valid-as valid _ (told .number .given .1))
-
-same-length-3 : tie.Need-same-length-3
-same-length-3 c = search needs
 
 returns-3 : tie.Need-returns-3
 returns-3 c =
@@ -106,19 +85,11 @@ returns-3 c =
     (test .if1 .left) (found .judge .result) (found .judge .ensures)
 
 pub check-within-spec : {M : Type 1} → statement M
-check-within-spec =
-    tie.close
-    (tie.spec
-    both-long-requires
-    validate-requires
-    enum-known-number
-    enum-told
+check-within-spec = tie.close (tie.spec (λ c κs. search needs) (λ c κs. search needs) (λ c. search needs)
+    (λ c. search needs)
     too-far-requires
-    cast-t17
-    same-length
+    cast-t17 (λ c. search needs)
     returns
-    judge-requires
-    same-length-2
-    returns-2
-    same-length-3
+    judge-requires (λ c. search needs)
+    returns-2 (λ c. search needs)
     returns-3)

@@ -19,8 +19,8 @@ Inv-loop parent work₀ u n cone₀ z₀ work cone z = Climbing parent u z work�
 abbrev μ-loop : tie.MeasureT-loop
 μ-loop parent work₀ u n cone₀ z₀ work cone z = depth parent z
 
-put-requires : tie.Need-put-requires Inv-loop μ-loop
-put-requires c κs = omega arith
+abbrev edge-turned : tie.After-grow Inv-loop μ-loop → tie.After-turn-edge Inv-loop μ-loop
+edge-turned c = c .before .before .before .before
 
 loop-holds : tie.Need-loop-holds Inv-loop μ-loop
 loop-holds c =
@@ -50,9 +50,6 @@ module _ (c : tie.At-loop Inv-loop μ-loop) where
 
   here-edges : Edges (length (start .args .parent .now)) (c .loop .work)
   here-edges = turning-edges (c .loop .inv .turning) (c .loop .inv .only .long) first-edges
-
-get-requires : tie.Need-get-requires Inv-loop μ-loop
-get-requires c κs = omega arith
 
 turn-edge-requires : tie.Need-turn-edge-requires Inv-loop μ-loop
 turn-edge-requires c κs =
@@ -90,12 +87,12 @@ grow-requires c κs =
 put-requires-2 : tie.Need-put-requires-2 Inv-loop μ-loop
 put-requires-2 c κs =
     let grown = c .before in
-    let turned = grown .before .before .before .before in
+    let turned = edge-turned grown in
     (omega (arith, parent-in turned, next-edges turned .long), grown .grow .ensures .fits)
 
 loop-less : tie.Need-loop-less Inv-loop μ-loop
 loop-less c =
-    let turned = c .before .before .before .before .before .before .before .before in
+    let turned = edge-turned (c .before .before .before .before) in
     let begun = start (at turned) in
     let less = depth-parent (begun .pre .0 .0 .tree) (at turned .loop .z) (some turned)
     (at turned .loop .inv .turning .inside) in
@@ -105,20 +102,15 @@ loop-again : tie.Need-loop-again Inv-loop μ-loop
 loop-again c =
     let kept = c .before .before in
     let grown = kept .before .before in
-    let turned = grown .before .before .before .before in
+    let turned = edge-turned grown in
     let begun = start (at turned) in
     let known = begun .pre in
     let is-parent = parent turned .get .ensures .0 in
-    subst⁻¹ (λ (z : ℕ).
-    Climbing (begun .args .parent .now) (begun .args .u) z (first (at turned)) (kept .put2 .last .0)
-    (grown .grow .result))
-    is-parent
+    subst⁻¹ (λ (z : ℕ). Climbing (begun .args .parent .now) (begun .args .u) z (first (at turned))
+    (kept .put2 .last .0) (grown .grow .result)) is-parent
     (climbing-step (known .0 .0 .tree) (known .0 .1) (some turned) (at turned .loop .inv) (turned .turn-edge .ensures)
     (grown .grow .result) (grown .grow .ensures) (omega (arith, is-parent, parent-in turned, next-edges turned .long))
     (kept .put2 .ensures ∙ ap (λ (p : ℕ). set (turned .turn-edge .last .0) p (grown .grow .result)) is-parent))
-
-same-length : tie.Need-same-length Inv-loop μ-loop
-same-length c = omega arith
 
 returns : tie.Need-returns Inv-loop μ-loop
 returns c =
@@ -126,18 +118,11 @@ returns c =
     climbing-end (start at .pre .0 .0 .tree) (first-only at) (c .loop-test .left) (at .loop .inv)
 
 pub climb-spec : {M : Type 1} → statement M
-climb-spec =
-    tie.close
-    (tie.spec
-    Inv-loop
-    μ-loop
-    put-requires
-    loop-holds
-    get-requires
+climb-spec = tie.close (tie.spec Inv-loop μ-loop (λ c κs. omega arith)
+    loop-holds (λ c κs. omega arith)
     turn-edge-requires
     grow-requires
     put-requires-2
     loop-less
-    loop-again
-    same-length
+    loop-again (λ c. omega arith)
     returns)

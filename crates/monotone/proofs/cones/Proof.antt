@@ -15,9 +15,6 @@ Inv-loop parent work₀ u n j₀ work j = Spreading parent u j work₀ work
 abbrev μ-loop : tie.MeasureT-loop
 μ-loop parent work₀ u n j₀ work j = j
 
-clear-requires : tie.Need-clear-requires Inv-loop μ-loop
-clear-requires c κs = omega arith
-
 ------------------------------------------------------------------------
 -- After each step
 
@@ -62,18 +59,6 @@ module _ (c : tie.At-loop Inv-loop μ-loop) where
   here : WithEdges (first climb-of .args .parent .now) (c .loop .work)
   here = edges-stay (c .loop .inv .only) (climbed climb-of)
 
-sub-j : tie.Need-sub-j Inv-loop μ-loop
-sub-j c = omega arith
-
-mul-get : tie.Need-mul-get Inv-loop μ-loop
-mul-get c = omega arith
-
-add-get : tie.Need-add-get Inv-loop μ-loop
-add-get c = omega arith
-
-get-requires : tie.Need-get-requires Inv-loop μ-loop
-get-requires c κs = omega arith
-
 visit-requires : tie.Need-visit-requires Inv-loop μ-loop
 visit-requires c κs =
     let node = c .before in
@@ -86,9 +71,6 @@ visit-requires c κs =
           (test .loop-test .taken)
           (turn .loop .inv)),
     )
-
-loop-less : tie.Need-loop-less Inv-loop μ-loop
-loop-less c = omega arith
 
 loop-again : tie.Need-loop-again Inv-loop μ-loop
 loop-again c =
@@ -120,28 +102,14 @@ module _ (c : tie.After-turn Inv-loop μ-loop) where
       (c .before .before .loop-test .left)
       (at .loop .inv) (c .turn .ensures)
 
-same-length : tie.Need-same-length Inv-loop μ-loop
-same-length c = omega arith
-
 returns : tie.Need-returns Inv-loop μ-loop
 returns c = result (c .before .before)
 
 pub cones-spec : {M : Type 1} → statement M
-cones-spec =
-    tie.close
-    (tie.spec
-    Inv-loop
-    μ-loop
-    clear-requires
+cones-spec = tie.close (tie.spec Inv-loop μ-loop (λ c κs. omega arith)
     climb-requires
-    loop-holds
-    sub-j
-    mul-get
-    add-get
-    get-requires
-    visit-requires
-    loop-less
+    loop-holds (λ c. omega arith) (λ c. omega arith) (λ c. omega arith) (λ c κs. omega arith)
+    visit-requires (λ c. omega arith)
     loop-again
-    turn-requires
-    same-length
+    turn-requires (λ c. omega arith)
     returns)

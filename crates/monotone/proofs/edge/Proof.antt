@@ -6,20 +6,11 @@ use Rattle.monotone.proofs.Wide.{small-back, back-small}
 use Rattle.monotone.proofs.edge.Statement.{statement}
 use Rattle.monotone.proofs.edge.Tie as tie
 
-add-part : tie.Need-add-part
-add-part c = search needs
-
 part-requires : tie.Need-part-requires
 part-requires c κs =
     let start = c .before in
     let known = start .pre .0 in
     (omega arith, known .across (start .args .z) (start .pre .1) (start .pre .2) .least)
-
-mul-part : tie.Need-mul-part
-mul-part c = search needs
-
-add-part-2 : tie.Need-add-part-2
-add-part-2 c = search needs
 
 part-requires-2 : tie.Need-part-requires-2
 part-requires-2 c κs =
@@ -42,4 +33,7 @@ returns c =
     )
 
 pub edge-spec : {M : Type 1} → statement M
-edge-spec = tie.close (tie.spec add-part part-requires mul-part add-part-2 part-requires-2 returns)
+edge-spec = tie.close (tie.spec (λ c. search needs)
+    part-requires (λ c. search needs) (λ c. search needs)
+    part-requires-2
+    returns)

@@ -6,18 +6,6 @@ use borrow.Author.Needs.{needs}
 use Rattle.monotone.proofs.flip.Statement.{statement}
 use Rattle.monotone.proofs.flip.Tie as tie
 
-get-requires : tie.Need-get-requires
-get-requires c κs = search needs
-
-sub-put : tie.Need-sub-put
-sub-put c = search needs
-
-put-requires : tie.Need-put-requires
-put-requires c κs = search needs
-
-same-length : tie.Need-same-length
-same-length c = search needs
-
 returns : tie.Need-returns
 returns c =
     let stored = c .before .before in
@@ -27,4 +15,5 @@ returns c =
     (stored .before .before .get .ensures .0)
 
 pub flip-spec : {M : Type 1} → statement M
-flip-spec = tie.close (tie.spec get-requires sub-put put-requires same-length returns)
+flip-spec = tie.close (tie.spec (λ c κs. search needs) (λ c. search needs) (λ c κs. search needs) (λ c. search needs)
+    returns)

@@ -1,4 +1,4 @@
--- Each return is a case of `Growth`: a shut cone stays shut, the first edge is a cone of its own, else the move says it.
+-- Each return is a case of `Growth`: a shut cone stays shut, the first edge is a cone of its own, else the move says.
 use mathlib.Core.Path.{subst}
 use Prim.Native.Nat.{ℕ, _/_, _%_}
 use borrow.Author.Needs.{needs}
@@ -10,12 +10,6 @@ use Rattle.monotone.proofs.grow.Tie as tie
 
 returns : tie.Need-returns
 returns c = grow-shut (c .before .before .pre) (c .if1 .taken)
-
-edge-requires : tie.Need-edge-requires
-edge-requires c κs = search needs
-
-alone-requires : tie.Need-alone-requires
-alone-requires c κs = search needs
 
 returns-2 : tie.Need-returns-2
 returns-2 c =
@@ -32,12 +26,10 @@ edge-requires-2 c κs =
 
 edge-requires-3 : tie.Need-edge-requires-3
 edge-requires-3 c κs =
-    let known = c .before .before .before .before .before .pre in
-    let pair = known .formed .pair (c .before .if2 .left) (c .before .before .before .if1 .left) in
+    let known-cone = c .before .before .before in
+    let known = known-cone .before .before .pre in
+    let pair = known .formed .pair (c .before .if2 .left) (known-cone .if1 .left) in
     (known .edges, pair .high, pair .high-in)
-
-step-requires : tie.Need-step-requires
-step-requires c κs = search needs
 
 -- the move, in the words of `Growth`
 module _ (c : tie.After-step) where
@@ -61,30 +53,6 @@ module _ (c : tie.After-step) where
       moved-to (c .before .before .edge2 .ensures .0) (c .before .edge3 .ensures .0) (test .before .edge .ensures .0)
       (c .step .ensures)
 
-enum-told : tie.Need-enum-told
-enum-told c = search needs
-
-enum-told-2 : tie.Need-enum-told-2
-enum-told-2 c = search needs
-
-mul-result : tie.Need-mul-result
-mul-result c = search needs
-
-add-result : tie.Need-add-result
-add-result c = search needs
-
-enum-told-3 : tie.Need-enum-told-3
-enum-told-3 c = search needs
-
-mul-result-2 : tie.Need-mul-result-2
-mul-result-2 c = search needs
-
-add-result-2 : tie.Need-add-result-2
-add-result-2 c = search needs
-
-enum-told-4 : tie.Need-enum-told-4
-enum-told-4 c = search needs
-
 returns-3 : tie.Need-returns-3
 returns-3 c =
     let said = c .before .before in
@@ -106,24 +74,12 @@ returns-6 c =
     grow-never (start said .pre) (said .step .result) (moved said) (pair said) (c .enum-told4 .given .1)
 
 pub grow-spec : {M : Type 1} → statement M
-grow-spec =
-    tie.close
-    (tie.spec
-    returns
-    edge-requires
-    alone-requires
+grow-spec = tie.close (tie.spec
+    returns (λ c κs. search needs) (λ c κs. search needs)
     returns-2
     edge-requires-2
-    edge-requires-3
-    step-requires
-    enum-told
-    enum-told-2
-    mul-result
-    add-result
-    enum-told-3
-    mul-result-2
-    add-result-2
-    enum-told-4
+    edge-requires-3 (λ c κs. search needs) (λ c. search needs) (λ c. search needs) (λ c. search needs)
+    (λ c. search needs) (λ c. search needs) (λ c. search needs) (λ c. search needs) (λ c. search needs)
     returns-3
     returns-4
     returns-5

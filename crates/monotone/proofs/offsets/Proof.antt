@@ -17,12 +17,6 @@ abbrev μ-loop : tie.MeasureT-loop
 loop-holds : tie.Need-loop-holds Inv-loop μ-loop
 loop-holds c = offsetting-start _ _ _ _
 
-get-requires : tie.Need-get-requires Inv-loop μ-loop
-get-requires c κs = c .loop-test .taken
-
-get-requires-2 : tie.Need-get-requires-2 Inv-loop μ-loop
-get-requires-2 c κs = omega arith
-
 -- the numbers read at z
 module _ (c : tie.After-get3 Inv-loop μ-loop) where
   abbrev turn : tie.At-loop Inv-loop μ-loop
@@ -50,27 +44,12 @@ get-requires-3 c κs =
     let inside = start .pre .0 .inside (turn .loop .z) (c .before .before .loop-test .taken) in
     omega arith
 
-add-put : tie.Need-add-put Inv-loop μ-loop
-add-put c = omega arith
-
-add-put-2 : tie.Need-add-put-2 Inv-loop μ-loop
-add-put-2 c = omega arith
-
-sub-put : tie.Need-sub-put Inv-loop μ-loop
-sub-put c = omega (arith, above-near (c .before))
-
 put-requires : tie.Need-put-requires Inv-loop μ-loop
 put-requires c κs =
     let read = c .before in (
       omega arith,
       omega (arith, below-near read),
     )
-
-add-z : tie.Need-add-z Inv-loop μ-loop
-add-z c = omega arith
-
-loop-less : tie.Need-loop-less Inv-loop μ-loop
-loop-less c = omega arith
 
 loop-again : tie.Need-loop-again Inv-loop μ-loop
 loop-again c =
@@ -82,28 +61,13 @@ loop-again c =
     ∙ ap₂ (λ (a b : ℕ). set (turn read .loop .work) (at .args .at + turn read .loop .z) (a + 2147483648 - b))
     (read .before .get2 .ensures .0) (above-is read))
 
-same-length : tie.Need-same-length Inv-loop μ-loop
-same-length c = omega arith
-
 returns : tie.Need-returns Inv-loop μ-loop
 returns c = (offsetting-end (c .loop-test .left) (c .before .loop .inv), c .before .loop .inv .only)
 
 pub offsets-spec : {M : Type 1} → statement M
-offsets-spec =
-    tie.close
-    (tie.spec
-    Inv-loop
-    μ-loop
-    loop-holds
-    get-requires
-    get-requires-2
-    get-requires-3
-    add-put
-    add-put-2
-    sub-put
-    put-requires
-    add-z
-    loop-less
-    loop-again
-    same-length
+offsets-spec = tie.close (tie.spec Inv-loop μ-loop
+    loop-holds (λ c κs. c .loop-test .taken) (λ c κs. omega arith)
+    get-requires-3 (λ c. omega arith) (λ c. omega arith) (λ c. omega (arith, above-near (c .before)))
+    put-requires (λ c. omega arith) (λ c. omega arith)
+    loop-again (λ c. omega arith)
     returns)

@@ -35,9 +35,6 @@ cones-requires c κs =
       c .before .pairs-test .taken,
     )
 
-add-v : tie.Need-add-v Inv-loop μ-loop Inv-pairs μ-pairs
-add-v c = omega arith
-
 loop-holds : tie.Need-loop-holds Inv-loop μ-loop Inv-pairs μ-pairs
 loop-holds c =
     let test = c .before .before .before .before in
@@ -65,21 +62,6 @@ module _ (c : tie.At-loop Inv-loop μ-loop Inv-pairs μ-pairs) where
   kept : Only 0 (length (start .args .parent .now)) (start .args .work .now) (coned .cones .last .1 .0)
   kept = only-trans (row .pairs .inv .only) (coned .cones .ensures .only)
 
-get-requires : tie.Need-get-requires Inv-loop μ-loop Inv-pairs μ-pairs
-get-requires c κs = omega arith
-
-cast-t15 : tie.Need-cast-t15 Inv-loop μ-loop Inv-pairs μ-pairs
-cast-t15 c = omega arith
-
-cast-t16 : tie.Need-cast-t16 Inv-loop μ-loop Inv-pairs μ-pairs
-cast-t16 c = omega arith
-
-add-v-2 : tie.Need-add-v-2 Inv-loop μ-loop Inv-pairs μ-pairs
-add-v-2 c = omega arith
-
-loop-less : tie.Need-loop-less Inv-loop μ-loop Inv-pairs μ-pairs
-loop-less c = omega arith
-
 loop-again : tie.Need-loop-again Inv-loop μ-loop Inv-pairs μ-pairs
 loop-again c =
     let test = c .before .before .before in
@@ -91,12 +73,6 @@ loop-again c =
       clear = clear-more (inv .clear) (λ e. c .if1 .left (c .before .get .ensures .0 ∙ e));
       still = inv .still;
     }
-
-add-u : tie.Need-add-u Inv-loop μ-loop Inv-pairs μ-pairs
-add-u c = omega arith
-
-pairs-less : tie.Need-pairs-less Inv-loop μ-loop Inv-pairs μ-pairs
-pairs-less c = omega arith
 
 pairs-again : tie.Need-pairs-again Inv-loop μ-loop Inv-pairs μ-pairs
 pairs-again c =
@@ -110,18 +86,12 @@ pairs-again c =
       still = place .loop .inv .still;
     }
 
-same-length : tie.Need-same-length Inv-loop μ-loop Inv-pairs μ-pairs
-same-length c = omega arith
-
 returns : tie.Need-returns Inv-loop μ-loop Inv-pairs μ-pairs
 returns c x y d =
     let rows = c .before in
     let start = rows .before .before .before in
     subst⁻¹ (Found (start .args .parent .now) x y) (rows .pairs .inv .still)
     (all-passed (c .pairs-test .left) (rows .pairs .inv .passed) x y d)
-
-same-length-2 : tie.Need-same-length-2 Inv-loop μ-loop Inv-pairs μ-pairs
-same-length-2 c = omega arith
 
 returns-2 : tie.Need-returns-2 Inv-loop μ-loop Inv-pairs μ-pairs
 returns-2 c =
@@ -132,27 +102,11 @@ returns-2 c =
     (sym (c .before .get .ensures .0) ∙ c .if1 .taken)
 
 pub pairs-spec : {M : Type 1} → statement M
-pairs-spec =
-    tie.close
-    (tie.spec
-    Inv-loop
-    μ-loop
-    Inv-pairs
-    μ-pairs
+pairs-spec = tie.close (tie.spec Inv-loop μ-loop Inv-pairs μ-pairs
     pairs-holds
-    cones-requires
-    add-v
-    loop-holds
-    get-requires
-    cast-t15
-    cast-t16
-    add-v-2
-    loop-less
-    loop-again
-    add-u
-    pairs-less
-    pairs-again
-    same-length
-    returns
-    same-length-2
+    cones-requires (λ c. omega arith)
+    loop-holds (λ c κs. omega arith) (λ c. omega arith) (λ c. omega arith) (λ c. omega arith) (λ c. omega arith)
+    loop-again (λ c. omega arith) (λ c. omega arith)
+    pairs-again (λ c. omega arith)
+    returns (λ c. omega arith)
     returns-2)

@@ -8,12 +8,6 @@ use Rattle.monotone.proofs.Wide.{part-fits, part-is, part-small}
 use Rattle.monotone.proofs.part.Statement.{statement}
 use Rattle.monotone.proofs.part.Tie as tie
 
-get-requires : tie.Need-get-requires
-get-requires c κs = search needs
-
-cast-number : tie.Need-cast-number
-cast-number c = search needs
-
 sub-result : tie.Need-sub-result
 sub-result c = part-fits (c .get .result) (omega arith) (c .get .ensures .1)
 
@@ -26,4 +20,6 @@ returns c =
     )
 
 pub part-spec : {M : Type 1} → statement M
-part-spec = tie.close (tie.spec get-requires cast-number sub-result returns)
+part-spec = tie.close (tie.spec (λ c κs. search needs) (λ c. search needs)
+    sub-result
+    returns)

@@ -17,51 +17,34 @@ Inv-loop place x y n most v₀ v = (v ≤ length x) × ((k : ℕ) → k < v → 
 abbrev μ-loop : tie.MeasureT-loop
 μ-loop place x y n most v₀ v = length x - v
 
+abbrev turning : tie.After-get2 Inv-loop μ-loop → tie.At-loop Inv-loop μ-loop
+turning c = c .before .before .before .before
+
 loop-holds : tie.Need-loop-holds Inv-loop μ-loop
 loop-holds c = (omega arith, below-none _)
-
-get-requires : tie.Need-get-requires Inv-loop μ-loop
-get-requires c κs = omega arith
 
 returns : tie.Need-returns Inv-loop μ-loop
 returns c =
     let turn = c .before .before .before .loop in
     least-is _ _ _ (omega arith) (turn .inv .1) (λ l. beyond-across _ _ _ _ (omega arith))
 
-get-requires-2 : tie.Need-get-requires-2 Inv-loop μ-loop
-get-requires-2 c κs = omega arith
-
 returns-2 : tie.Need-returns-2 Inv-loop μ-loop
 returns-2 c =
-    let turn = c .before .before .before .before .before .loop in
+    let turn = turning (c .before) .loop in
     least-is _ _ _ (omega arith) (turn .inv .1) (λ l. beyond-up _ _ _ _ (omega arith))
-
-add-v : tie.Need-add-v Inv-loop μ-loop
-add-v c = omega arith
-
-loop-less : tie.Need-loop-less Inv-loop μ-loop
-loop-less c = omega arith
 
 loop-again : tie.Need-loop-again Inv-loop μ-loop
 loop-again c =
-    let turn = c .before .before .before .before .before .loop in
+    let turn = turning (c .before) .loop in
     (omega arith, below-more _ _ (turn .inv .1) (within _ _ _ _ (omega arith) (omega arith)))
 
 returns-3 : tie.Need-returns-3 Inv-loop μ-loop
 returns-3 c = least-is _ _ _ (omega arith) (λ k l. c .before .loop .inv .1 k (omega arith)) (λ l. absurd (omega arith))
 
 pub too-far-spec : {M : Type 1} → statement M
-too-far-spec =
-    tie.close
-    (tie.spec
-    Inv-loop
-    μ-loop
-    loop-holds
-    get-requires
-    returns
-    get-requires-2
-    returns-2
-    add-v
-    loop-less
+too-far-spec = tie.close (tie.spec Inv-loop μ-loop
+    loop-holds (λ c κs. omega arith)
+    returns (λ c κs. omega arith)
+    returns-2 (λ c. omega arith) (λ c. omega arith)
     loop-again
     returns-3)

@@ -16,29 +16,29 @@ Inv-loop parent work₀ u n z₀ work z =
 abbrev μ-loop : tie.MeasureT-loop
 μ-loop parent work₀ u n z₀ work z = depth parent z
 
+abbrev start : tie.At-loop Inv-loop μ-loop → tie.Start Inv-loop μ-loop
+start c = c .before .before .before
+
 loop-holds : tie.Need-loop-holds Inv-loop μ-loop
 loop-holds c =
-    let start = c .before .before in
-    (turning-start (start .pre .0 .tree) (start .pre .1), only-refl _ _ _)
+    let given = c .before .before in
+    (turning-start (given .pre .0 .tree) (given .pre .1), only-refl _ _ _)
 
 turn-edge-requires : tie.Need-turn-edge-requires Inv-loop μ-loop
 turn-edge-requires c κs =
     let at = c .before .before in
     let inv = at .loop .inv in
-    let known = at .before .before .before .pre in
+    let known = start at .pre in
     (turning-edges (inv .0) (inv .1 .long) (known .0 .edges), c .before .loop-test .taken, inv .0 .inside)
-
-get-requires : tie.Need-get-requires Inv-loop μ-loop
-get-requires c κs = omega arith
 
 loop-less : tie.Need-loop-less Inv-loop μ-loop
 loop-less c =
     let turned = c .before .before .before in
     let test = turned .before .before in
     let at = test .before in
-    let start = at .before .before .before in
-    let less = depth-parent (start .pre .0 .tree) (at .loop .z) (test .loop-test .taken) (at .loop .inv .0 .inside) in
-    let same = ap (depth (start .args .parent .now)) (c .get .ensures .0) in
+    let given = start at in
+    let less = depth-parent (given .pre .0 .tree) (at .loop .z) (test .loop-test .taken) (at .loop .inv .0 .inside) in
+    let same = ap (depth (given .args .parent .now)) (c .get .ensures .0) in
     omega arith
 
 loop-again : tie.Need-loop-again Inv-loop μ-loop
@@ -46,27 +46,26 @@ loop-again c =
     let turned = c .before .before .before in
     let test = turned .before .before in
     let at = test .before in
-    let start = at .before .before .before in
-    let in-args = start .args in
+    let given = start at in
+    let in-args = given .args in
     let inv = at .loop .inv in (
       subst⁻¹ (λ (z : ℕ).
           Turning (in-args .parent .now) (in-args .u) z (in-args .work .now) (turned .turn-edge .last .0))
-          (c .get .ensures .0)
-          (turning-step (start .pre .0 .tree) (start .pre .1) (test .loop-test .taken) (inv .0)
+          (c .get .ensures .0) (turning-step (given .pre .0 .tree) (given .pre .1) (test .loop-test .taken) (inv .0)
           (turned .turn-edge .ensures)),
       only-trans (inv .1) (edge-only (inv .0 .inside) (turned .turn-edge .ensures)),
     )
 
-same-length : tie.Need-same-length Inv-loop μ-loop
-same-length c = c .before .loop .inv .1 .long
-
 returns : tie.Need-returns Inv-loop μ-loop
 returns c =
     let inv = c .before .loop .inv in
-    let start = c .before .before .before .before in
-    record { away = turning-end (start .pre .0 .tree) (c .loop-test .left) (inv .0); only = inv .1 }
+    let given = start (c .before) in
+    record { away = turning-end (given .pre .0 .tree) (c .loop-test .left) (inv .0); only = inv .1 }
 
 pub turn-spec : {M : Type 1} → statement M
-turn-spec =
-    tie.close
-    (tie.spec Inv-loop μ-loop loop-holds turn-edge-requires get-requires loop-less loop-again same-length returns)
+turn-spec = tie.close (tie.spec Inv-loop μ-loop
+    loop-holds
+    turn-edge-requires (λ c κs. omega arith)
+    loop-less
+    loop-again (λ c. c .before .loop .inv .1 .long)
+    returns)

@@ -9,23 +9,17 @@ use Rattle.monotone.specs.Rows.{known, grown}
 use Rattle.monotone.proofs.visit.Statement.{statement}
 use Rattle.monotone.proofs.visit.Tie as tie
 
-get-requires : tie.Need-get-requires
-get-requires c κs = search needs
-
-same-length : tie.Need-same-length
-same-length c = search needs
+abbrev start : tie.After-get → tie.Start
+start c = c .before .before .before .before
 
 returns : tie.Need-returns
 returns c = known (λ e. c .if1 .taken (c .before .get .ensures .0 ∙ e)) refl
 
-get-requires-2 : tie.Need-get-requires-2
-get-requires-2 c κs = search needs
-
 get-requires-3 : tie.Need-get-requires-3
 get-requires-3 c κs =
     let parent = c .before in
-    let start = parent .before .before .before .before .before .before in
-    let inside = start .pre .0 .tree .inside (start .args .v) (start .pre .1 .inside) in
+    let given = start (parent .before .before) in
+    let inside = given .pre .0 .tree .inside (given .args .v) (given .pre .1 .inside) in
     omega arith
 
 grow-requires : tie.Need-grow-requires
@@ -33,22 +27,16 @@ grow-requires c κs =
     let cone = c .before in
     let parent = cone .before .before in
     let test = parent .before in
-    let start = test .before .before .before .before .before in
+    let given = start (test .before) in
     let unknown = sym (test .before .get .ensures .0) ∙ test .if1 .left in
     record {
-      edges = start .pre .0 .edges;
-      some = start .pre .1 .some unknown;
-      inside = start .pre .1 .inside;
-      formed = subst⁻¹ (Formed (length (start .args .parent .now)))
-          (cone .get3 .ensures .0 ∙ ap (λ (p : ℕ). getD (start .args .work .now) p 0) (parent .get2 .ensures .0))
-          (start .pre .1 .formed unknown);
+      edges = given .pre .0 .edges;
+      some = given .pre .1 .some unknown;
+      inside = given .pre .1 .inside;
+      formed = subst⁻¹ (Formed (length (given .args .parent .now)))
+          (cone .get3 .ensures .0 ∙ ap (λ (p : ℕ). getD (given .args .work .now) p 0) (parent .get2 .ensures .0))
+          (given .pre .1 .formed unknown);
     }
-
-put-requires : tie.Need-put-requires
-put-requires c κs = search needs
-
-same-length-2 : tie.Need-same-length-2
-same-length-2 c = search needs
 
 returns-2 : tie.Need-returns-2
 returns-2 c =
@@ -57,24 +45,17 @@ returns-2 c =
     let cone = more .before .before in
     let parent = cone .before .before in
     let test = parent .before in
-    let start = test .before .before .before .before .before in
-    let P = start .args .parent .now in
-    let W = start .args .work .now in
+    let given = start (test .before) in
+    let P = given .args .parent .now in
+    let W = given .args .work .now in
     grown (more .grow .result) (sym (test .before .get .ensures .0) ∙ test .if1 .left)
-    (subst (λ (k : ℕ). Grown (length P) (edgeAt (length P) W) k (start .args .v) (more .grow .result))
+    (subst (λ (k : ℕ). Grown (length P) (edgeAt (length P) W) k (given .args .v) (more .grow .result))
     (cone .get3 .ensures .0 ∙ ap (λ (p : ℕ). getD W p 0) (parent .get2 .ensures .0)) (more .grow .ensures))
     (stored .put .ensures)
 
 pub visit-spec : {M : Type 1} → statement M
-visit-spec =
-    tie.close
-    (tie.spec
-    get-requires
-    same-length
-    returns
-    get-requires-2
+visit-spec = tie.close (tie.spec (λ c κs. search needs) (λ c. search needs)
+    returns (λ c κs. search needs)
     get-requires-3
-    grow-requires
-    put-requires
-    same-length-2
+    grow-requires (λ c κs. search needs) (λ c. search needs)
     returns-2)
