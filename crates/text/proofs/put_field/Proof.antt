@@ -5,9 +5,6 @@ use Rattle.text.specs.TextLaws.{length-decimal, appended-on}
 use Rattle.text.proofs.put_field.Statement.{statement}
 use Rattle.text.proofs.put_field.Tie as tie
 
-put-decimal-requires : tie.Need-put-decimal-requires
-put-decimal-requires c κs = omega arith
-
 put-byte-requires : tie.Need-put-byte-requires
 put-byte-requires c κs =
     let at-put-decimal = c .before .before .before in
@@ -20,15 +17,13 @@ put-byte-requires c κs =
       length-decimal (at-entry .args .n),
     )
 
-same-length : tie.Need-same-length
-same-length c = omega arith
-
 returns : tie.Need-returns
 unfolding field
 returns c =
     let at-put-byte = c .before .before in
-    let at-put-decimal = at-put-byte .before .before .before .before in
-    appended-on (at-put-decimal .put-decimal .ensures) (at-put-byte .put-byte .ensures)
+    appended-on (at-put-byte .before .before .before .before .put-decimal .ensures) (at-put-byte .put-byte .ensures)
 
 pub put-field-spec : {M : Type 1} → statement M
-put-field-spec = tie.close (tie.spec put-decimal-requires put-byte-requires same-length returns)
+put-field-spec = tie.close (tie.spec (λ c κs. omega arith)
+    put-byte-requires (λ c. omega arith)
+    returns)

@@ -6,8 +6,18 @@ use borrow.Author.Needs.{needs}
 use Rattle.text.proofs.put_line.Statement.{statement}
 use Rattle.text.proofs.put_line.Tie as tie
 
-put-field-requires : tie.Need-put-field-requires
-put-field-requires c κs = search needs
+module _ (c : tie.After-put-field3) where
+  abbrev second : tie.After-put-field2
+  second = c .before .before .before .before
+
+  abbrev first : tie.After-put-field
+  first = second .before .before .before .before
+
+  abbrev start : tie.Start
+  start = first .before .before .before
+
+abbrev third : tie.After-put-field4 → tie.After-put-field3
+third c = c .before .before .before .before
 
 put-field-requires-2 : tie.Need-put-field-requires-2
 put-field-requires-2 c κs =
@@ -44,16 +54,15 @@ put-field-requires-3 c κs =
 put-field-requires-4 : tie.Need-put-field-requires-4
 put-field-requires-4 c κs =
     let at-put-field3 = c .before .before .before in
-    let at-put-field2 = at-put-field3 .before .before .before .before in
-    let at-put-field = at-put-field2 .before .before .before .before in
-    let at-entry = at-put-field .before .before .before in (
+    let at-put-field = first at-put-field3 in
+    let at-entry = start at-put-field3 in (
       omega (
         arith,
         at-entry .pre,
         at-put-field .put-field .ensures .ends,
         at-put-field .put-field .ensures .long,
-        at-put-field2 .put-field2 .ensures .ends,
-        at-put-field2 .put-field2 .ensures .long,
+        second at-put-field3 .put-field2 .ensures .ends,
+        second at-put-field3 .put-field2 .ensures .long,
         at-put-field3 .put-field3 .ensures .ends,
         at-put-field3 .put-field3 .ensures .long,
         length-field (at-entry .args .v) 32,
@@ -65,11 +74,11 @@ put-field-requires-4 c κs =
 
 put-field-requires-5 : tie.Need-put-field-requires-5
 put-field-requires-5 c κs =
-    let at-put-field4 = c .before .before .before in
-    let at-put-field3 = at-put-field4 .before .before .before .before in
-    let at-put-field2 = at-put-field3 .before .before .before .before in
-    let at-put-field = at-put-field2 .before .before .before .before in
-    let at-entry = at-put-field .before .before .before in (
+    let fourth = c .before .before .before in
+    let at-put-field3 = third fourth in
+    let at-put-field2 = second at-put-field3 in
+    let at-put-field = first at-put-field3 in
+    let at-entry = start at-put-field3 in (
       omega (
         arith,
         at-entry .pre,
@@ -79,8 +88,8 @@ put-field-requires-5 c κs =
         at-put-field2 .put-field2 .ensures .long,
         at-put-field3 .put-field3 .ensures .ends,
         at-put-field3 .put-field3 .ensures .long,
-        at-put-field4 .put-field4 .ensures .ends,
-        at-put-field4 .put-field4 .ensures .long,
+        fourth .put-field4 .ensures .ends,
+        fourth .put-field4 .ensures .long,
         length-field (at-entry .args .v) 32,
         length-field (at-entry .args .a) 32,
         length-field (at-entry .args .b) 32,
@@ -89,28 +98,17 @@ put-field-requires-5 c κs =
       at-entry .pre .5,
     )
 
-same-length : tie.Need-same-length
-same-length c = search needs
-
 returns : tie.Need-returns
 returns c =
-    let at-put-field5 = c .before .before in
-    let at-put-field4 = at-put-field5 .before .before .before .before in
-    let at-put-field3 = at-put-field4 .before .before .before .before in
-    let at-put-field2 = at-put-field3 .before .before .before .before in
-    let at-put-field = at-put-field2 .before .before .before .before in
-    line-written _ _ _ _ _ (at-put-field .put-field .ensures) (at-put-field2 .put-field2 .ensures)
-    (at-put-field3 .put-field3 .ensures) (at-put-field4 .put-field4 .ensures)
-    (at-put-field5 .put-field5 .ensures)
+    let fifth = c .before .before in
+    let fourth = fifth .before .before .before .before in
+    line-written _ _ _ _ _ (first (third fourth) .put-field .ensures) (second (third fourth) .put-field2 .ensures)
+    (third fourth .put-field3 .ensures) (fourth .put-field4 .ensures) (fifth .put-field5 .ensures)
 
 pub put-line-spec : {M : Type 1} → statement M
-put-line-spec =
-    tie.close
-    (tie.spec
-    put-field-requires
+put-line-spec = tie.close (tie.spec (λ c κs. search needs)
     put-field-requires-2
     put-field-requires-3
     put-field-requires-4
-    put-field-requires-5
-    same-length
+    put-field-requires-5 (λ c. search needs)
     returns)

@@ -13,30 +13,27 @@ Inv-loop out₀ at x y u w n e₀ v₀ out e v = Listing (placesOf x y u w) (len
 abbrev μ-loop : tie.MeasureT-loop
 μ-loop out₀ at x y u w n e₀ v₀ out e v = length x - v
 
+module _ (c : tie.After-get2 Inv-loop μ-loop) where
+  abbrev got-x : tie.After-get Inv-loop μ-loop
+  got-x = c .before
+
+  abbrev going-on : tie.In-loop Inv-loop μ-loop
+  going-on = got-x .before .before
+
+  abbrev turn : tie.At-loop Inv-loop μ-loop
+  turn = going-on .before
+
+  abbrev start : tie.Start Inv-loop μ-loop
+  start = turn .before .before .before .before .before .before
+
 loop-holds : tie.Need-loop-holds Inv-loop μ-loop
 loop-holds c = listing-start _ _ _ _
 
-get-requires : tie.Need-get-requires Inv-loop μ-loop
-get-requires c κs = omega arith
-
-get-requires-2 : tie.Need-get-requires-2 Inv-loop μ-loop
-get-requires-2 c κs = omega arith
-
-get-requires-3 : tie.Need-get-requires-3 Inv-loop μ-loop
-get-requires-3 c κs = omega arith
-
-get-requires-4 : tie.Need-get-requires-4 Inv-loop μ-loop
-get-requires-4 c κs = omega arith
-
 put-line-requires : tie.Need-put-line-requires Inv-loop μ-loop
 put-line-requires c κs =
-    let at-get3 = c .before in
-    let at-get2 = at-get3 .before in
-    let at-get = at-get2 .before in
-    let at-loop-test = at-get .before .before in
-    let at-loop = at-loop-test .before in
-    let at-entry = at-loop .before .before .before .before .before .before in (
-      listing-room _ _ (at-entry .pre) (at-loop .loop .inv) (at-loop-test .loop-test .taken),
+    let got-y = c .before .before in
+    let at-entry = start got-y in (
+      listing-room _ _ (at-entry .pre) (turn got-y .loop .inv) (going-on got-y .loop-test .taken),
       omega arith,
       omega arith,
       omega arith,
@@ -44,47 +41,20 @@ put-line-requires c κs =
       omega arith,
     )
 
-add-v : tie.Need-add-v Inv-loop μ-loop
-add-v c = omega arith
-
-loop-less : tie.Need-loop-less Inv-loop μ-loop
-loop-less c = omega arith
-
 loop-again : tie.Need-loop-again Inv-loop μ-loop
 loop-again c =
-    let at-put-line = c .before .before in
-    let at-get4 = at-put-line .before in
-    let at-get3 = at-get4 .before in
-    let at-get2 = at-get3 .before in
-    let at-get = at-get2 .before in
-    let at-loop-test = at-get .before .before in
-    let at-loop = at-loop-test .before in
-    listing-step _ _ (at-loop .loop .inv) (at-loop-test .loop-test .taken) (at-get .get .ensures .0)
-    (at-get2 .get2 .ensures .0) (at-get3 .get3 .ensures .0)
-    (at-get4 .get4 .ensures .0) (at-put-line .put-line .ensures)
-
-same-length : tie.Need-same-length Inv-loop μ-loop
-same-length c = omega arith
+    let lined = c .before .before in
+    let got-u = lined .before .before in
+    let got-y = got-u .before in
+    listing-step _ _ (turn got-y .loop .inv) (going-on got-y .loop-test .taken) (got-x got-y .get .ensures .0)
+    (got-y .get2 .ensures .0) (got-u .get3 .ensures .0) (lined .before .get4 .ensures .0) (lined .put-line .ensures)
 
 returns : tie.Need-returns Inv-loop μ-loop
-returns c =
-    let at-loop = c .before in
-    listing-end _ _ (at-loop .loop .inv) (c .loop-test .left)
+returns c = listing-end _ _ (c .before .loop .inv) (c .loop-test .left)
 
 pub put-lines-spec : {M : Type 1} → statement M
-put-lines-spec =
-    tie.close
-    (tie.spec
-    Inv-loop
-    μ-loop
-    loop-holds
-    get-requires
-    get-requires-2
-    get-requires-3
-    get-requires-4
-    put-line-requires
-    add-v
-    loop-less
-    loop-again
-    same-length
+put-lines-spec = tie.close (tie.spec Inv-loop μ-loop
+    loop-holds (λ c κs. omega arith) (λ c κs. omega arith) (λ c κs. omega arith) (λ c κs. omega arith)
+    put-line-requires (λ c. omega arith) (λ c. omega arith)
+    loop-again (λ c. omega arith)
     returns)

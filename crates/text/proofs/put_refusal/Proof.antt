@@ -6,51 +6,38 @@ use borrow.Author.Needs.{needs}
 use Rattle.text.proofs.put_refusal.Statement.{statement}
 use Rattle.text.proofs.put_refusal.Tie as tie
 
-slice-aggregate-put-word : tie.Need-slice-aggregate-put-word
-slice-aggregate-put-word c = search needs
+module _ (c : tie.After-put-field) where
+  abbrev worded : tie.After-put-word
+  worded = c .before .before .before .before
 
-put-word-requires : tie.Need-put-word-requires
-put-word-requires c κs = search needs
-
-put-field-requires : tie.Need-put-field-requires
-put-field-requires c κs = search needs
+  abbrev start : tie.Start
+  start = worded .before .before .before .before
 
 put-field-requires-2 : tie.Need-put-field-requires-2
 put-field-requires-2 c κs =
-    let at-put-field = c .before .before .before in
-    let at-put-word = at-put-field .before .before .before .before in
-    let at-entry = at-put-word .before .before .before .before in (
+    let numbered = c .before .before .before in
+    let at-entry = start numbered in (
       omega (
         arith,
         at-entry .pre,
-        at-put-word .put-word .ensures .ends,
-        at-put-word .put-word .ensures .long,
-        at-put-field .put-field .ensures .ends,
-        at-put-field .put-field .ensures .long,
+        worded numbered .put-word .ensures .ends,
+        worded numbered .put-word .ensures .long,
+        numbered .put-field .ensures .ends,
+        numbered .put-field .ensures .long,
         length-field (at-entry .args .number) 32,
       ),
       omega arith,
     )
 
-same-length : tie.Need-same-length
-same-length c = search needs
-
 returns : tie.Need-returns
 unfolding refusalOf
 returns c =
     let at-put-field2 = c .before .before in
-    let at-put-field = at-put-field2 .before .before .before .before in
-    let at-put-word = at-put-field .before .before .before .before in
-    appended-on (at-put-word .put-word .ensures)
-    (appended-on (at-put-field .put-field .ensures) (at-put-field2 .put-field2 .ensures))
+    let numbered = at-put-field2 .before .before .before .before in
+    appended-on (worded numbered .put-word .ensures)
+    (appended-on (numbered .put-field .ensures) (at-put-field2 .put-field2 .ensures))
 
 pub put-refusal-spec : {M : Type 1} → statement M
-put-refusal-spec =
-    tie.close
-    (tie.spec
-    slice-aggregate-put-word
-    put-word-requires
-    put-field-requires
-    put-field-requires-2
-    same-length
+put-refusal-spec = tie.close (tie.spec (λ c. search needs) (λ c κs. search needs) (λ c κs. search needs)
+    put-field-requires-2 (λ c. search needs)
     returns)

@@ -16,28 +16,21 @@ loop-holds : tie.Need-loop-holds Inv-loop μ-loop
 loop-holds c = climbing-start _
 
 mul-loop : tie.Need-mul-loop Inv-loop μ-loop
-mul-loop c =
-    let at-entry = c .before in
-    omega (arith, at-entry .pre, climbing-low (c .loop .inv))
-
-mul-d : tie.Need-mul-d Inv-loop μ-loop
-mul-d c = omega arith
+mul-loop c = omega (arith, c .before .pre, climbing-low (c .loop .inv))
 
 loop-less : tie.Need-loop-less Inv-loop μ-loop
-loop-less c =
-    let at-loop = c .before in
-    omega (arith, power-positive (at-loop .loop .inv .power), c .loop-test .taken)
+loop-less c = omega (arith, power-positive (c .before .loop .inv .power), c .loop-test .taken)
 
 loop-again : tie.Need-loop-again Inv-loop μ-loop
-loop-again c =
-    let at-loop = c .before in
-    climbing-step (at-loop .loop .inv) (c .loop-test .taken)
+loop-again c = climbing-step (c .before .loop .inv) (c .loop-test .taken)
 
 returns : tie.Need-returns Inv-loop μ-loop
-returns c =
-    let at-loop = c .before in
-    climbing-end (at-loop .loop .inv) (omega (arith, c .loop-test .left))
+returns c = climbing-end (c .before .loop .inv) (omega (arith, c .loop-test .left))
 
 pub unit-spec : {M : Type 1} → statement M
-unit-spec =
-    tie.close (tie.spec Inv-loop μ-loop loop-holds mul-loop mul-d loop-less loop-again returns)
+unit-spec = tie.close (tie.spec Inv-loop μ-loop
+    loop-holds
+    mul-loop (λ c. omega arith)
+    loop-less
+    loop-again
+    returns)
