@@ -17,55 +17,21 @@ abbrev μ-loop : tie.MeasureT-loop
 loop-holds : tie.Need-loop-holds Inv-loop μ-loop
 loop-holds c = filled-start _ 0 _ _
 
-mul-word : tie.Need-mul-word Inv-loop μ-loop
-mul-word c = omega arith
-
-add-word : tie.Need-add-word Inv-loop μ-loop
-add-word c = omega arith
-
-word-requires : tie.Need-word-requires Inv-loop μ-loop
-word-requires c κs = omega arith
-
-put-requires : tie.Need-put-requires Inv-loop μ-loop
-put-requires c κs = omega arith
-
-add-v : tie.Need-add-v Inv-loop μ-loop
-add-v c = omega arith
-
-loop-less : tie.Need-loop-less Inv-loop μ-loop
-loop-less c = omega arith
-
 loop-again : tie.Need-loop-again Inv-loop μ-loop
 loop-again c =
     let at-put = c .before .before in
     let at-word = at-put .before .before in
-    let at-loop-test = at-word .before in
-    let at-loop = at-loop-test .before in
-    filled-step (at-loop .loop .inv) (at-loop-test .loop-test .taken) (omega arith) (at-word .word .ensures .0)
+    let at-loop = at-word .before .before in
+    filled-step (at-loop .loop .inv) (at-word .before .loop-test .taken) (omega arith) (at-word .word .ensures .0)
     (at-put .put .ensures ∙ ap (λ (k : ℕ). set (at-loop .loop .list) k (at-word .word .result)) (omega arith))
-
-same-length : tie.Need-same-length Inv-loop μ-loop
-same-length c = omega arith
 
 returns : tie.Need-returns Inv-loop μ-loop
 unfolding words
-returns c =
-    let at-loop = c .before in
-    filled-all (at-loop .loop .inv) (c .loop-test .left) refl
+returns c = filled-all (c .before .loop .inv) (c .loop-test .left) refl
 
 pub decode-spec : {M : Type 1} → statement M
-decode-spec =
-    tie.close
-    (tie.spec
-    Inv-loop
-    μ-loop
-    loop-holds
-    mul-word
-    add-word
-    word-requires
-    put-requires
-    add-v
-    loop-less
-    loop-again
-    same-length
+decode-spec = tie.close (tie.spec Inv-loop μ-loop
+    loop-holds (λ c. omega arith) (λ c. omega arith) (λ c κs. omega arith) (λ c κs. omega arith) (λ c. omega arith)
+    (λ c. omega arith)
+    loop-again (λ c. omega arith)
     returns)

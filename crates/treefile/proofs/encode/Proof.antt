@@ -15,54 +15,19 @@ abbrev μ-loop : tie.MeasureT-loop
 loop-holds : tie.Need-loop-holds Inv-loop μ-loop
 loop-holds c = encoding-start _ _ _
 
-get-requires : tie.Need-get-requires Inv-loop μ-loop
-get-requires c κs = omega arith
-
-mul-put-word : tie.Need-mul-put-word Inv-loop μ-loop
-mul-put-word c = omega arith
-
-add-put-word : tie.Need-add-put-word Inv-loop μ-loop
-add-put-word c = omega arith
-
-put-word-requires : tie.Need-put-word-requires Inv-loop μ-loop
-put-word-requires c κs = omega arith
-
-add-v : tie.Need-add-v Inv-loop μ-loop
-add-v c = omega arith
-
-loop-less : tie.Need-loop-less Inv-loop μ-loop
-loop-less c = omega arith
-
 loop-again : tie.Need-loop-again Inv-loop μ-loop
 loop-again c =
     let at-put-word = c .before .before in
     let at-get = at-put-word .before .before in
-    let at-loop-test = at-get .before in
-    let at-loop = at-loop-test .before in
-    encoding-step (at-loop .loop .inv) (at-loop-test .loop-test .taken) (at-get .get .ensures .0)
+    encoding-step (at-get .before .before .loop .inv) (at-get .before .loop-test .taken) (at-get .get .ensures .0)
     (at-put-word .put-word .ensures)
 
-same-length : tie.Need-same-length Inv-loop μ-loop
-same-length c = omega arith
-
 returns : tie.Need-returns Inv-loop μ-loop
-returns c =
-    let at-loop = c .before in
-    encoding-end (at-loop .loop .inv) (c .loop-test .left)
+returns c = encoding-end (c .before .loop .inv) (c .loop-test .left)
 
 pub encode-spec : {M : Type 1} → statement M
-encode-spec =
-    tie.close
-    (tie.spec
-    Inv-loop
-    μ-loop
-    loop-holds
-    get-requires
-    mul-put-word
-    add-put-word
-    put-word-requires
-    add-v
-    loop-less
-    loop-again
-    same-length
+encode-spec = tie.close (tie.spec Inv-loop μ-loop
+    loop-holds (λ c κs. omega arith) (λ c. omega arith) (λ c. omega arith) (λ c κs. omega arith) (λ c. omega arith)
+    (λ c. omega arith)
+    loop-again (λ c. omega arith)
     returns)
