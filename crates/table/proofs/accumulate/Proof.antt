@@ -13,82 +13,48 @@ Inv-loop parent work₀ n p₀ work p = Accumulating parent work₀ work p
 abbrev μ-loop : tie.MeasureT-loop
 μ-loop parent work₀ n p₀ work p = length parent - p
 
+module _ (c : tie.After-get2 Inv-loop μ-loop) where
+  abbrev sum : tie.After-get Inv-loop μ-loop
+  sum = c .before .before
+
+  abbrev going-on : tie.In-loop Inv-loop μ-loop
+  going-on = sum .before .before
+
+  abbrev turn : tie.At-loop Inv-loop μ-loop
+  turn = going-on .before
+
+  abbrev start : tie.Start Inv-loop μ-loop
+  start = turn .before .before .before
+
 loop-holds : tie.Need-loop-holds Inv-loop μ-loop
-loop-holds c =
-    let at-entry = c .before .before in
-    accumulating-start (at-entry .pre .1)
-
-get-requires : tie.Need-get-requires Inv-loop μ-loop
-get-requires c κs = omega arith
-
-add-get : tie.Need-add-get Inv-loop μ-loop
-add-get c = omega arith
-
-get-requires-2 : tie.Need-get-requires-2 Inv-loop μ-loop
-get-requires-2 c κs = omega arith
-
-add-put : tie.Need-add-put Inv-loop μ-loop
-add-put c = omega arith
-
-add-put-2 : tie.Need-add-put-2 Inv-loop μ-loop
-add-put-2 c = omega arith
+loop-holds c = accumulating-start (c .before .before .pre .1)
 
 put-requires : tie.Need-put-requires Inv-loop μ-loop
 put-requires c κs =
-    let at-get2 = c .before in
-    let at-get = at-get2 .before .before in
-    let at-loop-test = at-get .before .before in
-    let at-loop = at-loop-test .before in
-    let at-entry = at-loop .before .before .before in (
-      accumulating-in (at-entry .pre .0) (at-loop .loop .inv) (at-loop-test .loop-test .taken),
+    let count = c .before in
+    let given = start count in (
+      accumulating-in (given .pre .0) (turn count .loop .inv) (going-on count .loop-test .taken),
       omega (
         arith,
-        accumulating-few (at-entry .pre .0) (at-loop .loop .inv) (at-loop-test .loop-test .taken)
-            (at-get .get .ensures .0) (at-get2 .get2 .ensures .0),
-        at-entry .pre .0 .few,
+        accumulating-few (given .pre .0) (turn count .loop .inv) (going-on count .loop-test .taken)
+            (sum count .get .ensures .0) (count .get2 .ensures .0),
+        given .pre .0 .few,
       ),
     )
 
-add-p : tie.Need-add-p Inv-loop μ-loop
-add-p c = omega arith
-
-loop-less : tie.Need-loop-less Inv-loop μ-loop
-loop-less c = omega arith
-
 loop-again : tie.Need-loop-again Inv-loop μ-loop
 loop-again c =
-    let at-put = c .before .before in
-    let at-get2 = at-put .before .before in
-    let at-get = at-get2 .before .before in
-    let at-loop-test = at-get .before .before in
-    let at-loop = at-loop-test .before in
-    let at-entry = at-loop .before .before .before in
-    accumulating-step (at-entry .pre .0) (at-loop .loop .inv) (at-loop-test .loop-test .taken)
-    (at-get .get .ensures .0) (at-get2 .get2 .ensures .0) (at-put .put .ensures)
-
-same-length : tie.Need-same-length Inv-loop μ-loop
-same-length c = omega arith
+    let summed = c .before .before in
+    let count = summed .before .before in
+    accumulating-step (start count .pre .0) (turn count .loop .inv) (going-on count .loop-test .taken)
+    (sum count .get .ensures .0) (count .get2 .ensures .0) (summed .put .ensures)
 
 returns : tie.Need-returns Inv-loop μ-loop
-returns c =
-    let at-loop = c .before in
-    accumulating-end (at-loop .loop .inv) (c .loop-test .left)
+returns c = accumulating-end (c .before .loop .inv) (c .loop-test .left)
 
 pub accumulate-spec : {M : Type 1} → statement M
-accumulate-spec =
-    tie.close
-    (tie.spec
-    Inv-loop
-    μ-loop
-    loop-holds
-    get-requires
-    add-get
-    get-requires-2
-    add-put
-    add-put-2
-    put-requires
-    add-p
-    loop-less
-    loop-again
-    same-length
+accumulate-spec = tie.close (tie.spec Inv-loop μ-loop
+    loop-holds (λ c κs. omega arith) (λ c. omega arith) (λ c κs. omega arith) (λ c. omega arith) (λ c. omega arith)
+    put-requires (λ c. omega arith) (λ c. omega arith)
+    loop-again (λ c. omega arith)
     returns)

@@ -13,75 +13,50 @@ Inv-loop parent work₀ n v₀ work v = Drifting parent work₀ work v
 abbrev μ-loop : tie.MeasureT-loop
 μ-loop parent work₀ n v₀ work v = length parent - v
 
+module _ (c : tie.After-steps Inv-loop μ-loop) where
+  abbrev going-on : tie.In-loop Inv-loop μ-loop
+  going-on = c .before .before
+
+  abbrev turn : tie.At-loop Inv-loop μ-loop
+  turn = going-on .before
+
 loop-holds : tie.Need-loop-holds Inv-loop μ-loop
 loop-holds c =
-    let at-entry = c .before .before in
-    drifting-start (at-entry .pre .0) (at-entry .pre .1) (at-entry .pre .2)
+    let start = c .before .before in
+    drifting-start (start .pre .0) (start .pre .1) (start .pre .2)
 
 steps-requires : tie.Need-steps-requires Inv-loop μ-loop
-steps-requires c κs =
-    let at-loop-test = c .before in
-    let at-loop = at-loop-test .before in
-    (at-loop .loop .inv .scratch, at-loop-test .loop-test .taken)
-
-same-length : tie.Need-same-length Inv-loop μ-loop
-same-length c = omega arith
+steps-requires c κs = (c .before .before .loop .inv .scratch, c .before .loop-test .taken)
 
 returns : tie.Need-returns Inv-loop μ-loop
 returns c =
-    let at-steps = c .before in
-    let at-loop-test = at-steps .before .before in
-    let at-loop = at-loop-test .before in (
-      drifting-found (at-loop .loop .inv) (at-loop-test .loop-test .taken) (at-steps .steps .ensures)
+    let at-loop = turn (c .before) in (
+      drifting-found (at-loop .loop .inv) (going-on (c .before) .loop-test .taken) (c .before .steps .ensures)
           (c .if1 .taken),
       at-loop .loop .inv .kept,
     )
 
 mark-requires : tie.Need-mark-requires Inv-loop μ-loop
 mark-requires c κs =
-    let at-if1 = c .before in
-    let at-steps = at-if1 .before in
-    let at-loop-test = at-steps .before .before in
-    let at-loop = at-loop-test .before in
-    drifting-reaches (at-loop .loop .inv) (at-loop-test .loop-test .taken) (at-steps .steps .ensures)
-    (at-if1 .if1 .left)
-
-add-v : tie.Need-add-v Inv-loop μ-loop
-add-v c = omega arith
-
-loop-less : tie.Need-loop-less Inv-loop μ-loop
-loop-less c = omega arith
+    let climbed = c .before .before in
+    drifting-reaches (turn climbed .loop .inv) (going-on climbed .loop-test .taken) (climbed .steps .ensures)
+    (c .before .if1 .left)
 
 loop-again : tie.Need-loop-again Inv-loop μ-loop
 loop-again c =
-    let at-mark = c .before .before in
-    let at-steps = at-mark .before .before .before in
-    let at-loop-test = at-steps .before .before in
-    let at-loop = at-loop-test .before in
-    drifting-step (at-loop .loop .inv) (at-loop-test .loop-test .taken) (at-steps .steps .ensures)
-    (at-mark .mark .ensures)
-
-same-length-2 : tie.Need-same-length-2 Inv-loop μ-loop
-same-length-2 c = omega arith
+    let marked = c .before .before in
+    let climbed = marked .before .before .before in
+    drifting-step (turn climbed .loop .inv) (going-on climbed .loop-test .taken) (climbed .steps .ensures)
+    (marked .mark .ensures)
 
 returns-2 : tie.Need-returns-2 Inv-loop μ-loop
-returns-2 c =
-    let at-loop = c .before in
-    drifting-end (at-loop .loop .inv) (c .loop-test .left)
+returns-2 c = drifting-end (c .before .loop .inv) (c .loop-test .left)
 
 pub drifting-spec : {M : Type 1} → statement M
-drifting-spec =
-    tie.close
-    (tie.spec
-    Inv-loop
-    μ-loop
+drifting-spec = tie.close (tie.spec Inv-loop μ-loop
     loop-holds
-    steps-requires
-    same-length
+    steps-requires (λ c. omega arith)
     returns
-    mark-requires
-    add-v
-    loop-less
-    loop-again
-    same-length-2
+    mark-requires (λ c. omega arith) (λ c. omega arith)
+    loop-again (λ c. omega arith)
     returns-2)

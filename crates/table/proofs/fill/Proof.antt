@@ -13,91 +13,55 @@ Inv-loop parent rank work₀ n v₀ work v = Filling parent rank work v × (leng
 abbrev μ-loop : tie.MeasureT-loop
 μ-loop parent rank work₀ n v₀ work v = length parent - v
 
+module _ (c : tie.After-get2 Inv-loop μ-loop) where
+  abbrev its-parent : tie.After-get Inv-loop μ-loop
+  its-parent = c .before
+
+  abbrev going-on : tie.In-loop Inv-loop μ-loop
+  going-on = its-parent .before
+
+  abbrev turn : tie.At-loop Inv-loop μ-loop
+  turn = going-on .before
+
+  abbrev start : tie.Start Inv-loop μ-loop
+  start = turn .before .before .before .before
+
 loop-holds : tie.Need-loop-holds Inv-loop μ-loop
-loop-holds c =
-    let at-entry = c .before .before .before in
-    (filling-start (at-entry .pre), refl)
-
-get-requires : tie.Need-get-requires Inv-loop μ-loop
-get-requires c κs = omega arith
-
-get-requires-2 : tie.Need-get-requires-2 Inv-loop μ-loop
-get-requires-2 c κs = omega arith
+loop-holds c = (filling-start (c .before .before .before .pre), refl)
 
 get-requires-3 : tie.Need-get-requires-3 Inv-loop μ-loop
 get-requires-3 c κs =
-    let at-get2 = c .before in
-    let at-get = at-get2 .before in
-    let at-loop-test = at-get .before in
-    let at-loop = at-loop-test .before in
-    parent-in (at-loop .loop .inv .0) (at-loop-test .loop-test .taken) (at-get .get .ensures .0)
-    (at-get2 .get2 .ensures .0)
-
-add-s : tie.Need-add-s Inv-loop μ-loop
-add-s c = omega arith
-
-add-put : tie.Need-add-put Inv-loop μ-loop
-add-put c = omega arith
-
-add-put-2 : tie.Need-add-put-2 Inv-loop μ-loop
-add-put-2 c = omega arith
+    let its-rank = c .before in
+    parent-in (turn its-rank .loop .inv .0) (going-on its-rank .loop-test .taken)
+    (its-parent its-rank .get .ensures .0) (its-rank .get2 .ensures .0)
 
 put-requires : tie.Need-put-requires Inv-loop μ-loop
 put-requires c κs =
-    let at-get3 = c .before in
-    let at-get2 = at-get3 .before .before in
-    let at-get = at-get2 .before in
-    let at-loop-test = at-get .before in
-    let at-loop = at-loop-test .before in
-    let at-entry = at-loop .before .before .before .before in (
-      slot-in (at-loop .loop .inv .0) (at-loop-test .loop-test .taken) (at-get .get .ensures .0)
-          (at-get2 .get2 .ensures .0) (at-get3 .get3 .ensures .0),
+    let its-rank = c .before .before .before in
+    let given = start its-rank in (
+      slot-in (turn its-rank .loop .inv .0) (going-on its-rank .loop-test .taken)
+          (its-parent its-rank .get .ensures .0)
+          (its-rank .get2 .ensures .0) (c .before .get3 .ensures .0),
       omega arith,
     )
 
-add-v : tie.Need-add-v Inv-loop μ-loop
-add-v c = omega arith
-
-loop-less : tie.Need-loop-less Inv-loop μ-loop
-loop-less c = omega arith
-
 loop-again : tie.Need-loop-again Inv-loop μ-loop
 loop-again c =
-    let at-put = c .before .before in
-    let at-get3 = at-put .before .before in
-    let at-get2 = at-get3 .before .before in
-    let at-get = at-get2 .before in
-    let at-loop-test = at-get .before in
-    let at-loop = at-loop-test .before in
-    let at-entry = at-loop .before .before .before .before in
-    let filled = filling-step (at-loop .loop .inv .0) (at-loop-test .loop-test .taken) (at-get .get .ensures .0)
-    (at-get2 .get2 .ensures .0) (at-get3 .get3 .ensures .0) (at-put .put .ensures) in
-    (filled, filled .ready .long ∙ sym (at-entry .pre .long))
-
-same-length : tie.Need-same-length Inv-loop μ-loop
-same-length c = omega arith
+    let filled = c .before .before in
+    let first-slot = filled .before .before in
+    let its-rank = first-slot .before .before in
+    let filled = filling-step (turn its-rank .loop .inv .0) (going-on its-rank .loop-test .taken)
+    (its-parent its-rank .get .ensures .0) (its-rank .get2 .ensures .0) (first-slot .get3 .ensures .0)
+    (filled .put .ensures) in
+    (filled, filled .ready .long ∙ sym (start its-rank .pre .long))
 
 returns : tie.Need-returns Inv-loop μ-loop
-returns c =
-    let at-loop = c .before in
-    filling-end (at-loop .loop .inv .0) (c .loop-test .left)
+returns c = filling-end (c .before .loop .inv .0) (c .loop-test .left)
 
 pub fill-spec : {M : Type 1} → statement M
-fill-spec =
-    tie.close
-    (tie.spec
-    Inv-loop
-    μ-loop
-    loop-holds
-    get-requires
-    get-requires-2
-    get-requires-3
-    add-s
-    add-put
-    add-put-2
-    put-requires
-    add-v
-    loop-less
-    loop-again
-    same-length
+fill-spec = tie.close (tie.spec Inv-loop μ-loop
+    loop-holds (λ c κs. omega arith) (λ c κs. omega arith)
+    get-requires-3 (λ c. omega arith) (λ c. omega arith) (λ c. omega arith)
+    put-requires (λ c. omega arith) (λ c. omega arith)
+    loop-again (λ c. omega arith)
     returns)

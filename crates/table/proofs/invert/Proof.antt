@@ -12,72 +12,36 @@ Inv-loop parent rank work₀ n j₀ work j = Inverting parent rank work₀ work 
 abbrev μ-loop : tie.MeasureT-loop
 μ-loop parent rank work₀ n j₀ work j = length parent - j
 
+abbrev start : tie.At-loop Inv-loop μ-loop → tie.Start Inv-loop μ-loop
+start c = c .before .before .before .before
+
 loop-holds : tie.Need-loop-holds Inv-loop μ-loop
-loop-holds c =
-    let at-entry = c .before .before .before in
-    inverting-start (at-entry .pre)
-
-mul-get : tie.Need-mul-get Inv-loop μ-loop
-mul-get c = omega arith
-
-add-get : tie.Need-add-get Inv-loop μ-loop
-add-get c = omega arith
-
-get-requires : tie.Need-get-requires Inv-loop μ-loop
-get-requires c κs = omega arith
-
-add-put : tie.Need-add-put Inv-loop μ-loop
-add-put c = omega arith
+loop-holds c = inverting-start (c .before .before .before .pre)
 
 put-requires : tie.Need-put-requires Inv-loop μ-loop
 put-requires c κs =
-    let at-get = c .before in
-    let at-loop-test = at-get .before .before in
+    let at-loop-test = c .before .before .before in
     let at-loop = at-loop-test .before in
-    let at-entry = at-loop .before .before .before .before in (
-      inverting-in (at-entry .pre) (at-loop .loop .inv) (at-loop-test .loop-test .taken) (at-get .get .ensures .0),
+    let given = start at-loop in (
+      inverting-in (given .pre) (at-loop .loop .inv) (at-loop-test .loop-test .taken) (c .before .get .ensures .0),
       omega arith,
     )
 
-add-j : tie.Need-add-j Inv-loop μ-loop
-add-j c = omega arith
-
-loop-less : tie.Need-loop-less Inv-loop μ-loop
-loop-less c = omega arith
-
 loop-again : tie.Need-loop-again Inv-loop μ-loop
 loop-again c =
-    let at-put = c .before .before in
-    let at-get = at-put .before .before in
-    let at-loop-test = at-get .before .before in
+    let numbered = c .before .before in
+    let node = numbered .before .before in
+    let at-loop-test = node .before .before in
     let at-loop = at-loop-test .before in
-    let at-entry = at-loop .before .before .before .before in
-    inverting-step (at-entry .pre) (at-loop .loop .inv) (at-loop-test .loop-test .taken) (at-get .get .ensures .0)
-    (at-put .put .ensures)
-
-same-length : tie.Need-same-length Inv-loop μ-loop
-same-length c = omega arith
+    inverting-step (start at-loop .pre) (at-loop .loop .inv) (at-loop-test .loop-test .taken) (node .get .ensures .0)
+    (numbered .put .ensures)
 
 returns : tie.Need-returns Inv-loop μ-loop
-returns c =
-    let at-loop = c .before in
-    let at-entry = at-loop .before .before .before .before in
-    inverting-end (at-entry .pre) (at-loop .loop .inv) (c .loop-test .left)
+returns c = inverting-end (start (c .before) .pre) (c .before .loop .inv) (c .loop-test .left)
 
 pub invert-spec : {M : Type 1} → statement M
-invert-spec =
-    tie.close
-    (tie.spec
-    Inv-loop
-    μ-loop
-    loop-holds
-    mul-get
-    add-get
-    get-requires
-    add-put
-    put-requires
-    add-j
-    loop-less
-    loop-again
-    same-length
+invert-spec = tie.close (tie.spec Inv-loop μ-loop
+    loop-holds (λ c. omega arith) (λ c. omega arith) (λ c κs. omega arith) (λ c. omega arith)
+    put-requires (λ c. omega arith) (λ c. omega arith)
+    loop-again (λ c. omega arith)
     returns)

@@ -12,83 +12,56 @@ Inv-loop parent rank work v n u₀ s₀ u s = Descending parent rank work v u s
 abbrev μ-loop : tie.MeasureT-loop
 μ-loop parent rank work v n u₀ s₀ u s = size parent rank u
 
-get-requires : tie.Need-get-requires Inv-loop μ-loop
-get-requires c κs = omega arith
+module _ (c : tie.After-get2 Inv-loop μ-loop) where
+  abbrev turn : tie.At-loop Inv-loop μ-loop
+  turn = c .before
 
-loop-holds : tie.Need-loop-holds Inv-loop μ-loop
-loop-holds c = omega arith
+  abbrev start : tie.Start Inv-loop μ-loop
+  start = turn .before .before .before .before .before
 
-add-get : tie.Need-add-get Inv-loop μ-loop
-add-get c = omega arith
+module _ (c : tie.After-get3 Inv-loop μ-loop) where
+  abbrev inner : tie.Then1 Inv-loop μ-loop
+  inner = c .before
 
-get-requires-2 : tie.Need-get-requires-2 Inv-loop μ-loop
-get-requires-2 c κs = omega arith
-
-add-get-2 : tie.Need-add-get-2 Inv-loop μ-loop
-add-get-2 c = omega arith
-
-add-get-3 : tie.Need-add-get-3 Inv-loop μ-loop
-add-get-3 c = omega arith
+  abbrev end-slot : tie.After-get2 Inv-loop μ-loop
+  end-slot = inner .before
 
 get-requires-3 : tie.Need-get-requires-3 Inv-loop μ-loop
 get-requires-3 c κs =
-    let at-get2 = c .before in
-    let at-loop = at-get2 .before in
-    let at-entry = at-loop .before .before .before .before .before in
-    descending-slot (at-entry .pre .0) (at-loop .loop .inv) (at-get2 .get2 .ensures .0) (c .if1 .taken)
+    descending-slot (start (c .before) .pre .0) (turn (c .before) .loop .inv) (c .before .get2 .ensures .0)
+    (c .if1 .taken)
 
 get-requires-4 : tie.Need-get-requires-4 Inv-loop μ-loop
 get-requires-4 c κs =
-    let at-if1 = c .before in
-    let at-get2 = at-if1 .before in
-    let at-loop = at-get2 .before in
-    let at-entry = at-loop .before .before .before .before .before in
+    let given = start (end-slot c) in
     omega (
       arith,
-      first-in (at-entry .pre .0 .ready) _
-          (descending-inside (at-entry .pre .0) (at-loop .loop .inv) (at-get2 .get2 .ensures .0) (at-if1 .if1 .taken)
-          (c .get3 .ensures .0)),
+      first-in (given .pre .0 .ready) _
+          (descending-inside (given .pre .0) (turn (end-slot c) .loop .inv) (end-slot c .get2 .ensures .0)
+          (inner c .if1 .taken) (c .get3 .ensures .0)),
     )
 
 loop-less : tie.Need-loop-less Inv-loop μ-loop
 loop-less c =
-    let at-get3 = c .before in
-    let at-if1 = at-get3 .before in
-    let at-get2 = at-if1 .before in
-    let at-loop = at-get2 .before in
-    let at-entry = at-loop .before .before .before .before .before in
-    descending-less (at-entry .pre .0) (at-loop .loop .inv) (at-get2 .get2 .ensures .0) (at-if1 .if1 .taken)
-    (at-get3 .get3 .ensures .0)
+    let at-get2 = end-slot (c .before) in
+    descending-less (start at-get2 .pre .0) (turn at-get2 .loop .inv) (at-get2 .get2 .ensures .0)
+    (inner (c .before) .if1 .taken) (c .before .get3 .ensures .0)
 
 loop-again : tie.Need-loop-again Inv-loop μ-loop
 loop-again c =
-    let at-get3 = c .before in
-    let at-if1 = at-get3 .before in
-    let at-get2 = at-if1 .before in
-    let at-loop = at-get2 .before in
-    let at-entry = at-loop .before .before .before .before .before in
-    descending-step (at-entry .pre .0) (at-loop .loop .inv) (at-get2 .get2 .ensures .0) (at-if1 .if1 .taken)
-    (at-get3 .get3 .ensures .0) (c .get4 .ensures .0)
+    let at-get2 = end-slot (c .before) in
+    descending-step (start at-get2 .pre .0) (turn at-get2 .loop .inv) (at-get2 .get2 .ensures .0)
+    (inner (c .before) .if1 .taken) (c .before .get3 .ensures .0) (c .get4 .ensures .0)
 
 returns : tie.Need-returns Inv-loop μ-loop
 returns c =
-    let at-get2 = c .before in
-    let at-loop = at-get2 .before in
-    let at-entry = at-loop .before .before .before .before .before in
-    descending-end (at-entry .pre .0) (at-loop .loop .inv) (at-get2 .get2 .ensures .0) (at-entry .pre .1) (c .if1 .left)
+    let given = start (c .before) in
+    descending-end (given .pre .0) (turn (c .before) .loop .inv) (c .before .get2 .ensures .0) (given .pre .1)
+    (c .if1 .left)
 
 pub leaf-spec : {M : Type 1} → statement M
-leaf-spec =
-    tie.close
-    (tie.spec
-    Inv-loop
-    μ-loop
-    get-requires
-    loop-holds
-    add-get
-    get-requires-2
-    add-get-2
-    add-get-3
+leaf-spec = tie.close (tie.spec Inv-loop μ-loop (λ c κs. omega arith) (λ c. omega arith) (λ c. omega arith)
+    (λ c κs. omega arith) (λ c. omega arith) (λ c. omega arith)
     get-requires-3
     get-requires-4
     loop-less

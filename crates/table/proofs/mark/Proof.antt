@@ -11,65 +11,43 @@ Inv-loop parent work₀ v k n u₀ i₀ work u i = Passing parent work₀ work v
 abbrev μ-loop : tie.MeasureT-loop
 μ-loop parent work₀ v k n u₀ i₀ work u i = k - i
 
+abbrev start : tie.At-loop Inv-loop μ-loop → tie.Start Inv-loop μ-loop
+start c = c .before .before .before
+
 loop-holds : tie.Need-loop-holds Inv-loop μ-loop
-loop-holds c =
-    let at-entry = c .before .before in
-    passing-start (at-entry .pre)
+loop-holds c = passing-start (c .before .before .pre)
 
 add-put : tie.Need-add-put Inv-loop μ-loop
 add-put c =
     let at-loop = c .before .before in
-    let at-entry = at-loop .before .before .before in
-    omega (arith, passing-inside (at-entry .pre) (at-loop .loop .inv))
+    omega (arith, passing-inside (start at-loop .pre) (at-loop .loop .inv))
 
 put-requires : tie.Need-put-requires Inv-loop μ-loop
 put-requires c κs =
     let at-loop = c .before .before in
-    let at-entry = at-loop .before .before .before in
-    (passing-in (at-entry .pre) (at-loop .loop .inv), omega arith)
+    (passing-in (start at-loop .pre) (at-loop .loop .inv), omega arith)
 
 get-requires : tie.Need-get-requires Inv-loop μ-loop
 get-requires c κs =
     let at-loop = c .before .before .before .before .before in
-    let at-entry = at-loop .before .before .before in
-    passing-inside (at-entry .pre) (at-loop .loop .inv)
-
-add-i : tie.Need-add-i Inv-loop μ-loop
-add-i c = omega arith
-
-loop-less : tie.Need-loop-less Inv-loop μ-loop
-loop-less c = omega arith
+    passing-inside (start at-loop .pre) (at-loop .loop .inv)
 
 loop-again : tie.Need-loop-again Inv-loop μ-loop
 loop-again c =
-    let at-put = c .before .before .before in
-    let at-loop-test = at-put .before .before in
+    let put = c .before .before .before in
+    let at-loop-test = put .before .before in
     let at-loop = at-loop-test .before in
-    let at-entry = at-loop .before .before .before in
-    passing-step (at-entry .pre) (at-loop .loop .inv) (at-loop-test .loop-test .taken) (at-put .put .ensures)
+    passing-step (start at-loop .pre) (at-loop .loop .inv) (at-loop-test .loop-test .taken) (put .put .ensures)
     (c .get .ensures .0)
 
-same-length : tie.Need-same-length Inv-loop μ-loop
-same-length c = omega arith
-
 returns : tie.Need-returns Inv-loop μ-loop
-returns c =
-    let at-loop = c .before in
-    let at-entry = at-loop .before .before .before in
-    passing-end (at-entry .pre) (at-loop .loop .inv) (c .loop-test .left)
+returns c = passing-end (start (c .before) .pre) (c .before .loop .inv) (c .loop-test .left)
 
 pub mark-spec : {M : Type 1} → statement M
-mark-spec =
-    tie.close
-    (tie.spec
-    Inv-loop
-    μ-loop
+mark-spec = tie.close (tie.spec Inv-loop μ-loop
     loop-holds
     add-put
     put-requires
-    get-requires
-    add-i
-    loop-less
-    loop-again
-    same-length
+    get-requires (λ c. omega arith) (λ c. omega arith)
+    loop-again (λ c. omega arith)
     returns)

@@ -17,48 +17,30 @@ abbrev μ-loop : tie.MeasureT-loop
 
 loop-holds : tie.Need-loop-holds Inv-loop μ-loop
 loop-holds c =
-    let at-entry = c .before .before .before in (
-      seating-start (at-entry .pre .0 .0) (at-entry .pre .0 .1) (at-entry .pre .1 .0) (at-entry .pre .1 .1),
-      at-entry .pre .0 .0 .nodes .some,
+    let start = c .before .before .before in (
+      seating-start (start .pre .0 .0) (start .pre .0 .1) (start .pre .1 .0) (start .pre .1 .1),
+      start .pre .0 .0 .nodes .some,
       only-refl _ _ _,
     )
 
 seat-requires : tie.Need-seat-requires Inv-loop μ-loop
-seat-requires c κs =
-    let at-loop-test = c .before in
-    let at-loop = at-loop-test .before in
-    (at-loop .loop .inv .0, at-loop-test .loop-test .taken)
-
-add-v : tie.Need-add-v Inv-loop μ-loop
-add-v c = omega arith
-
-loop-less : tie.Need-loop-less Inv-loop μ-loop
-loop-less c = omega arith
+seat-requires c κs = (c .before .before .loop .inv .0, c .before .loop-test .taken)
 
 loop-again : tie.Need-loop-again Inv-loop μ-loop
 loop-again c =
-    let at-seat = c .before .before in
-    let at-loop = at-seat .before .before .before in
-    (at-seat .seat .ensures .0, omega arith, only-trans (at-loop .loop .inv .2) (at-seat .seat .ensures .1))
-
-same-length : tie.Need-same-length Inv-loop μ-loop
-same-length c = omega arith
+    let at-seat = c .before .before in (
+      at-seat .seat .ensures .0,
+      omega arith,
+      only-trans (at-seat .before .before .before .loop .inv .2)
+          (at-seat .seat .ensures .1),
+    )
 
 returns : tie.Need-returns Inv-loop μ-loop
-returns c =
-    let at-loop = c .before in
-    (seating-end (at-loop .loop .inv .0) (omega arith), at-loop .loop .inv .2)
+returns c = (seating-end (c .before .loop .inv .0) (omega arith), c .before .loop .inv .2)
 
 pub occupy-spec : {M : Type 1} → statement M
-occupy-spec =
-    tie.close
-    (tie.spec
-    Inv-loop
-    μ-loop
+occupy-spec = tie.close (tie.spec Inv-loop μ-loop
     loop-holds
-    seat-requires
-    add-v
-    loop-less
-    loop-again
-    same-length
+    seat-requires (λ c. omega arith) (λ c. omega arith)
+    loop-again (λ c. omega arith)
     returns)

@@ -5,40 +5,34 @@ use Rattle.table.proofs.FirstSlots.{started-all, scratch-kept}
 use Rattle.table.proofs.starts.Statement.{statement}
 use Rattle.table.proofs.starts.Tie as tie
 
-mul-clear : tie.Need-mul-clear
-mul-clear c = search needs
+abbrev start : tie.After-clear → tie.Start
+start c = c .before .before .before .before
 
-clear-requires : tie.Need-clear-requires
-clear-requires c κs = search needs
+abbrev cleared : tie.After-tally → tie.After-clear
+cleared c = c .before .before .before .before
 
 tally-requires : tie.Need-tally-requires
 tally-requires c κs =
     let at-clear = c .before .before .before in
-    let at-entry = at-clear .before .before .before .before in
-    (scratch-kept (at-entry .pre) (at-clear .clear .ensures .1 .long), at-clear .clear .ensures .0)
+    (scratch-kept (start at-clear .pre) (at-clear .clear .ensures .1 .long), at-clear .clear .ensures .0)
 
 accumulate-requires : tie.Need-accumulate-requires
 accumulate-requires c κs =
-    let at-tally = c .before .before .before in
-    let at-clear = at-tally .before .before .before .before in
-    let at-entry = at-clear .before .before .before .before in (
-      scratch-kept (at-entry .pre) (at-tally .tally .ensures .1 .long ∙ at-clear .clear .ensures .1 .long),
-      at-tally .tally .ensures .0,
+    let tallied = c .before .before .before in (
+      scratch-kept (start (cleared tallied) .pre) (tallied .tally .ensures .1 .long
+          ∙ cleared tallied .clear .ensures .1 .long),
+      tallied .tally .ensures .0,
     )
-
-same-length : tie.Need-same-length
-same-length c = search needs
 
 returns : tie.Need-returns
 returns c =
     let at-accumulate = c .before .before in
-    let at-tally = at-accumulate .before .before .before .before in
-    let at-clear = at-tally .before .before .before .before in
-    let at-entry = at-clear .before .before .before .before in
-    started-all (at-entry .pre) (at-clear .clear .ensures) (at-tally .tally .ensures)
+    let tallied = at-accumulate .before .before .before .before in
+    started-all (start (cleared tallied) .pre) (cleared tallied .clear .ensures) (tallied .tally .ensures)
     (at-accumulate .accumulate .ensures)
 
 pub starts-spec : {M : Type 1} → statement M
-starts-spec =
-    tie.close
-    (tie.spec mul-clear clear-requires tally-requires accumulate-requires same-length returns)
+starts-spec = tie.close (tie.spec (λ c. search needs) (λ c κs. search needs)
+    tally-requires
+    accumulate-requires (λ c. search needs)
+    returns)

@@ -20,19 +20,10 @@ abbrev μ-loop : tie.MeasureT-loop
 loop-holds : tie.Need-loop-holds Inv-loop μ-loop
 loop-holds c = (omega arith, omega arith, below-more _ 0 (below-none _) (stray-root _))
 
-get-requires : tie.Need-get-requires Inv-loop μ-loop
-get-requires c κs = omega arith
-
 returns : tie.Need-returns Inv-loop μ-loop
 returns c =
     let turn = c .before .before .before .loop in
     least-is _ _ _ (omega arith) (turn .inv .2) (λ l. stray-yes _ _ (omega arith) (omega arith))
-
-add-v : tie.Need-add-v Inv-loop μ-loop
-add-v c = omega arith
-
-loop-less : tie.Need-loop-less Inv-loop μ-loop
-loop-less c = omega arith
 
 loop-again : tie.Need-loop-again Inv-loop μ-loop
 loop-again c =
@@ -43,6 +34,8 @@ returns-2 : tie.Need-returns-2 Inv-loop μ-loop
 returns-2 c = least-is _ _ _ (omega arith) (λ k l. c .before .loop .inv .2 k (omega arith)) (λ l. absurd (omega arith))
 
 pub stray-parent-spec : {M : Type 1} → statement M
-stray-parent-spec =
-    tie.close
-    (tie.spec Inv-loop μ-loop loop-holds get-requires returns add-v loop-less loop-again returns-2)
+stray-parent-spec = tie.close (tie.spec Inv-loop μ-loop
+    loop-holds (λ c κs. omega arith)
+    returns (λ c. omega arith) (λ c. omega arith)
+    loop-again
+    returns-2)

@@ -13,15 +13,16 @@ Inv-loop parent rank work₀ n v₀ c₀ work v c = Walking parent rank work v c
 abbrev μ-loop : tie.MeasureT-loop
 μ-loop parent rank work₀ n v₀ c₀ work v c = length parent - c
 
+abbrev start : tie.After-leaf Inv-loop μ-loop → tie.Start Inv-loop μ-loop
+start c = c .before .before .before .before .before
+
 leaf-requires : tie.Need-leaf-requires Inv-loop μ-loop
 leaf-requires c κs =
-    let at-entry = c .before .before .before .before in
-    (at-entry .pre, at-entry .pre .ready .tree .some)
+    let given = c .before .before .before .before in
+    (given .pre, given .pre .ready .tree .some)
 
 loop-holds : tie.Need-loop-holds Inv-loop μ-loop
-loop-holds c =
-    let at-entry = c .before .before .before .before .before in
-    (walking-start (at-entry .pre) (c .leaf .ensures), refl)
+loop-holds c = (walking-start (start c .pre) (c .leaf .ensures), refl)
 
 add-loop : tie.Need-add-loop Inv-loop μ-loop
 add-loop c = omega (arith, visited-room (c .loop .inv .0 .visited) (c .loop .inv .0 .inside) (c .loop .inv .0 .number))
@@ -33,27 +34,20 @@ visit-requires c κs =
 
 next-requires : tie.Need-next-requires Inv-loop μ-loop
 next-requires c κs =
-    let at-visit = c .before .before .before in
-    let at-loop-test = at-visit .before .before in
+    let visited = c .before .before .before in
+    let at-loop-test = visited .before .before in
     let at-loop = at-loop-test .before in (
-      at-visit .visit .ensures .seated,
+      visited .visit .ensures .seated,
       walking-above (at-loop .loop .inv .0) (at-loop-test .loop-test .taken),
       at-loop .loop .inv .0 .inside,
     )
 
-add-c : tie.Need-add-c Inv-loop μ-loop
-add-c c = omega arith
-
-loop-less : tie.Need-loop-less Inv-loop μ-loop
-loop-less c = omega arith
-
 loop-again : tie.Need-loop-again Inv-loop μ-loop
 loop-again c =
-    let at-visit = c .before .before .before .before in
-    let at-loop = at-visit .before .before .before in
-    let at-entry = at-loop .before .before .before .before .before .before in (
-      walking-step (at-loop .loop .inv .0) (at-visit .visit .ensures) (c .next .ensures),
-      at-visit .visit .ensures .seated .ready .long ∙ sym (at-entry .pre .ready .long),
+    let visited = c .before .before .before .before in
+    let at-loop = visited .before .before .before in (
+      walking-step (at-loop .loop .inv .0) (visited .visit .ensures) (c .next .ensures),
+      visited .visit .ensures .seated .ready .long ∙ sym (start (at-loop .before) .pre .ready .long),
     )
 
 visit-requires-2 : tie.Need-visit-requires-2 Inv-loop μ-loop
@@ -61,30 +55,19 @@ visit-requires-2 c κs =
     let at-loop = c .before .before in
     (at-loop .loop .inv .0 .visited, at-loop .loop .inv .0 .inside, at-loop .loop .inv .0 .number)
 
-same-length : tie.Need-same-length Inv-loop μ-loop
-same-length c = omega arith
-
 returns : tie.Need-returns Inv-loop μ-loop
 returns c =
     let at-visit2 = c .before .before in
     let at-loop-test = at-visit2 .before .before in
-    let at-loop = at-loop-test .before in
-    walking-end (at-loop .loop .inv .0) (at-loop-test .loop-test .left) (at-visit2 .visit2 .ensures)
+    walking-end (at-loop-test .before .loop .inv .0) (at-loop-test .loop-test .left) (at-visit2 .visit2 .ensures)
 
 pub walk-spec : {M : Type 1} → statement M
-walk-spec =
-    tie.close
-    (tie.spec
-    Inv-loop
-    μ-loop
+walk-spec = tie.close (tie.spec Inv-loop μ-loop
     leaf-requires
     loop-holds
     add-loop
     visit-requires
-    next-requires
-    add-c
-    loop-less
+    next-requires (λ c. omega arith) (λ c. omega arith)
     loop-again
-    visit-requires-2
-    same-length
+    visit-requires-2 (λ c. omega arith)
     returns)
