@@ -15,16 +15,10 @@ one-shifted k h = shl-exact 1 k 64 (omega arith) (omega arith) ∙ omega arith
 returns : tie.Need-returns
 returns c = sym (ap (bordered (c .before .args .k) flat upright) (c .if1 .taken))
 
-shl-if2 : tie.Need-shl-if2
-shl-if2 c = search needs
-
 returns-2 : tie.Need-returns-2
 returns-2 c =
     let start = c .before .before in
     sym (bordered-last _ _ (c .if2 .taken ∙ one-shifted (start .args .k) (start .pre .0)))
-
-cast-descend : tie.Need-cast-descend
-cast-descend c = search needs
 
 descend-requires : tie.Need-descend-requires
 descend-requires c κs =
@@ -40,5 +34,8 @@ returns-3 c =
     c .descend .ensures ∙ sym (bordered-is (start .args .k) (start .args .j) (omega arith) (omega arith))
 
 pub bordered-spec : {M : Type 1} → statement M
-bordered-spec =
-    tie.close (tie.spec returns shl-if2 returns-2 cast-descend descend-requires returns-3)
+bordered-spec = tie.close (tie.spec
+    returns (λ c. search needs)
+    returns-2 (λ c. search needs)
+    descend-requires
+    returns-3)

@@ -11,18 +11,6 @@ use Rattle.slopes.specs.Slopes.{flat, upright}
 use Rattle.slopes.proofs.bordered_at.Statement.{statement}
 use Rattle.slopes.proofs.bordered_at.Tie as tie
 
-enum-told : tie.Need-enum-told
-enum-told c = search needs
-
-steep-requires : tie.Need-steep-requires
-steep-requires c κs = search needs
-
-enum-told-2 : tie.Need-enum-told-2
-enum-told-2 c = search needs
-
-levels-for-requires : tie.Need-levels-for-requires
-levels-for-requires c κs = search needs
-
 bordered-requires : tie.Need-bordered-requires
 bordered-requires c κs =
     let start = c .before .before .before in
@@ -50,13 +38,8 @@ returns-2 c =
     ∙ sym (ap (λ (rule : Rule). borderedAt rule (start .args .n) j) (told .enum-told2 .given .1))
 
 pub bordered-at-spec : {M : Type 1} → statement M
-bordered-at-spec =
-    tie.close
-    (tie.spec
-    enum-told
-    steep-requires
-    enum-told-2
-    levels-for-requires
+bordered-at-spec = tie.close (tie.spec (λ c. search needs) (λ c κs. search needs) (λ c. search needs)
+    (λ c κs. search needs)
     bordered-requires
     returns
     returns-2)

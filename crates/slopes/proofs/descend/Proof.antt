@@ -17,9 +17,6 @@ abbrev μ-loop : tie.MeasureT-loop
 ends : (c : tie.Start Inv-loop μ-loop) → Ends (c .args .j) (trailingZeros 32 (c .args .j))
 ends c = trailing-ends 32 (c .args .j) (c .pre .1) (c .fits .j .fits)
 
-sub-bit : tie.Need-sub-bit Inv-loop μ-loop
-sub-bit c = omega (arith, ends-below _ _ _ (ends c) (c .pre .2))
-
 loop-holds : tie.Need-loop-holds Inv-loop μ-loop
 loop-holds c = walk-start (c .args .k) _ (c .args .j) (c .pre .2) (ends c)
 
@@ -28,23 +25,11 @@ mediant-requires c κs =
     let turning = c .before in
     walk-fits (turning .loop .inv) (turning .before .pre .0)
 
-shr-turn : tie.Need-shr-turn Inv-loop μ-loop
-shr-turn c = omega arith
-
-sub-bit-2 : tie.Need-sub-bit-2 Inv-loop μ-loop
-sub-bit-2 c = omega arith
-
-loop-less : tie.Need-loop-less Inv-loop μ-loop
-loop-less c = omega arith
-
 loop-again : tie.Need-loop-again Inv-loop μ-loop
 loop-again c =
     let middle = c .before in
     let turn = middle .before in
     rw (middle .mediant .ensures) (walk-right (turn .before .loop .inv) (turn .loop-test .taken) (c .if1 .taken))
-
-loop-less-2 : tie.Need-loop-less-2 Inv-loop μ-loop
-loop-less-2 c = omega arith
 
 loop-again-2 : tie.Need-loop-again-2 Inv-loop μ-loop
 loop-again-2 c =
@@ -61,19 +46,11 @@ returns c =
     c .mediant2 .ensures ∙ walk-end (left .before .loop .inv) (left .loop-test .left)
 
 pub descend-spec : {M : Type 1} → statement M
-descend-spec =
-    tie.close
-    (tie.spec
-    Inv-loop
-    μ-loop
-    sub-bit
+descend-spec = tie.close (tie.spec Inv-loop μ-loop
+    (λ c. omega (arith, ends-below _ _ _ (ends c) (c .pre .2)))
     loop-holds
-    mediant-requires
-    shr-turn
-    sub-bit-2
-    loop-less
-    loop-again
-    loop-less-2
+    mediant-requires (λ c. omega arith) (λ c. omega arith) (λ c. omega arith)
+    loop-again (λ c. omega arith)
     loop-again-2
     mediant-requires-2
     returns)

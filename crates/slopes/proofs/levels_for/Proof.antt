@@ -6,12 +6,6 @@ use Rattle.slopes.specs.SlopeLaws.{levelsFor-leading}
 use Rattle.slopes.proofs.levels_for.Statement.{statement}
 use Rattle.slopes.proofs.levels_for.Tie as tie
 
-sub-result : tie.Need-sub-result
-sub-result c = search needs
-
-cast-result : tie.Need-cast-result
-cast-result c = search needs
-
 sub-result-2 : tie.Need-sub-result-2
 sub-result-2 c = leading-le 32 _
 
@@ -19,4 +13,6 @@ returns : tie.Need-returns
 returns c = sym (levelsFor-leading 32 (c .args .n) (c .pre .0) (c .pre .1))
 
 pub levels-for-spec : {M : Type 1} → statement M
-levels-for-spec = tie.close (tie.spec sub-result cast-result sub-result-2 returns)
+levels-for-spec = tie.close (tie.spec (λ c. search needs) (λ c. search needs)
+    sub-result-2
+    returns)

@@ -5,17 +5,10 @@ use lib.Count.{trailing-le}
 use Rattle.slopes.proofs.multiple_at.Statement.{statement}
 use Rattle.slopes.proofs.multiple_at.Tie as tie
 
-cast-result : tie.Need-cast-result
-cast-result c = omega (arith, trailing-le 32 (c .args .j))
-
-mul-result : tie.Need-mul-result
-mul-result c = omega (arith, trailing-le 32 (c .args .j))
-
-add-result : tie.Need-add-result
-add-result c = omega (arith, trailing-le 32 (c .args .j))
-
 returns : tie.Need-returns
 returns c = (refl, omega (arith, trailing-le 32 (c .args .j)))
 
 pub multiple-at-spec : {M : Type 1} → statement M
-multiple-at-spec = tie.close (tie.spec cast-result mul-result add-result returns)
+multiple-at-spec = tie.close (tie.spec (λ c. omega (arith, trailing-le 32 (c .args .j)))
+    (λ c. omega (arith, trailing-le 32 (c .args .j))) (λ c. omega (arith, trailing-le 32 (c .args .j)))
+    returns)

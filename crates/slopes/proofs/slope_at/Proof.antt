@@ -10,21 +10,6 @@ use Rattle.slopes.specs.SlopeLaws.{levelsFor-least, levelsFor-enough}
 use Rattle.slopes.proofs.slope_at.Statement.{statement}
 use Rattle.slopes.proofs.slope_at.Tie as tie
 
-enum-told : tie.Need-enum-told
-enum-told c = search needs
-
-steep-requires : tie.Need-steep-requires
-steep-requires c κs = search needs
-
-enum-told-2 : tie.Need-enum-told-2
-enum-told-2 c = search needs
-
-levels-for-requires : tie.Need-levels-for-requires
-levels-for-requires c κs = search needs
-
-cast-descend : tie.Need-cast-descend
-cast-descend c = search needs
-
 descend-requires : tie.Need-descend-requires
 descend-requires c κs =
     let start = c .before .before .before in
@@ -52,14 +37,8 @@ returns-2 c =
     ∙ sym (ap (λ (rule : Rule). slopeAt rule (start .args .n) j) (told .enum-told2 .given .1))
 
 pub slope-at-spec : {M : Type 1} → statement M
-slope-at-spec =
-    tie.close
-    (tie.spec
-    enum-told
-    steep-requires
-    enum-told-2
-    levels-for-requires
-    cast-descend
+slope-at-spec = tie.close (tie.spec (λ c. search needs) (λ c κs. search needs) (λ c. search needs)
+    (λ c κs. search needs) (λ c. search needs)
     descend-requires
     returns
     returns-2)

@@ -5,24 +5,6 @@ use Rattle.slopes.specs.Neighbours.{steep-step, fits-across, fits-up, ba
 use Rattle.slopes.proofs.slope_before.Statement.{statement}
 use Rattle.slopes.proofs.slope_before.Tie as tie
 
-enum-told : tie.Need-enum-told
-enum-told c = search needs
-
-sub-steep : tie.Need-sub-steep
-sub-steep c = search needs
-
-steep-requires : tie.Need-steep-requires
-steep-requires c κs = search needs
-
-enum-told-2 : tie.Need-enum-told-2
-enum-told-2 c = search needs
-
-cast-multiple-at : tie.Need-cast-multiple-at
-cast-multiple-at c = search needs
-
-multiple-at-requires : tie.Need-multiple-at-requires
-multiple-at-requires c κs = search needs
-
 part-before-requires : tie.Need-part-before-requires
 part-before-requires c κs =
     let told = c .before in
@@ -56,15 +38,8 @@ returns-2 c =
     (across .part-before .ensures) (c .part-before2 .ensures)
 
 pub slope-before-spec : {M : Type 1} → statement M
-slope-before-spec =
-    tie.close
-    (tie.spec
-    enum-told
-    sub-steep
-    steep-requires
-    enum-told-2
-    cast-multiple-at
-    multiple-at-requires
+slope-before-spec = tie.close (tie.spec (λ c. search needs) (λ c. search needs) (λ c κs. search needs)
+    (λ c. search needs) (λ c. search needs) (λ c κs. search needs)
     part-before-requires
     part-before-requires-2
     returns
