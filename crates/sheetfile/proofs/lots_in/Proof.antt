@@ -9,9 +9,6 @@ returns : tie.Need-returns
 unfolding lotsIn
 returns c = omega arith
 
-sub-n : tie.Need-sub-n
-sub-n c = search needs
-
 returns-2 : tie.Need-returns-2
 unfolding lotsIn
 returns-2 c = omega arith
@@ -21,4 +18,5 @@ unfolding lotsIn
 returns-3 c = omega arith
 
 pub lots-in-spec : {M : Type 1} → statement M
-lots-in-spec = tie.close (tie.spec returns sub-n returns-2 returns-3)
+lots-in-spec = tie.close (tie.spec returns (λ c. search needs) returns-2
+    returns-3)

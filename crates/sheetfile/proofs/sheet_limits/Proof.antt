@@ -3,8 +3,5 @@ use mathlib.Core.Path.{refl}
 use Rattle.sheetfile.proofs.sheet_limits.Statement.{statement}
 use Rattle.sheetfile.proofs.sheet_limits.Tie as tie
 
-returns : tie.Need-returns
-returns c = refl
-
 pub sheet-limits-spec : {M : Type 1} → statement M
-sheet-limits-spec = tie.close (tie.spec returns)
+sheet-limits-spec = tie.close (tie.spec (λ c. refl))
