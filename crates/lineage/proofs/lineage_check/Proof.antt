@@ -9,18 +9,6 @@ returns : tie.Need-returns
 unfolding Exported
 returns c = (c .if1 .taken, refl, refl)
 
-check-requires : tie.Need-check-requires
-check-requires c κs = search needs
-
-put-verdict-requires : tie.Need-put-verdict-requires
-put-verdict-requires c κs = search needs
-
-same-length : tie.Need-same-length
-same-length c = search needs
-
-same-length-2 : tie.Need-same-length-2
-same-length-2 c = search needs
-
 returns-2 : tie.Need-returns-2
 unfolding Exported
 returns-2 c =
@@ -35,6 +23,5 @@ returns-2 c =
     )
 
 pub lineage-check-spec : {M : Type 1} → statement M
-lineage-check-spec =
-    tie.close
-    (tie.spec returns check-requires put-verdict-requires same-length same-length-2 returns-2)
+lineage-check-spec = tie.close (tie.spec returns (λ c κs. search needs) (λ c κs. search needs) (λ c. search needs)
+    (λ c. search needs) returns-2)

@@ -9,21 +9,6 @@ returns : tie.Need-returns
 unfolding Exported
 returns c = (c .if1 .taken, refl, refl)
 
-rule-of-requires : tie.Need-rule-of-requires
-rule-of-requires c κs = search needs
-
-direction-requires : tie.Need-direction-requires
-direction-requires c κs = search needs
-
-put-heading-requires : tie.Need-put-heading-requires
-put-heading-requires c κs = search needs
-
-same-length : tie.Need-same-length
-same-length c = search needs
-
-same-length-2 : tie.Need-same-length-2
-same-length-2 c = search needs
-
 returns-2 : tie.Need-returns-2
 unfolding Exported
 returns-2 c =
@@ -39,13 +24,5 @@ returns-2 c =
     )
 
 pub lineage-direction-spec : {M : Type 1} → statement M
-lineage-direction-spec =
-    tie.close
-    (tie.spec
-    returns
-    rule-of-requires
-    direction-requires
-    put-heading-requires
-    same-length
-    same-length-2
-    returns-2)
+lineage-direction-spec = tie.close (tie.spec returns (λ c κs. search needs) (λ c κs. search needs)
+    (λ c κs. search needs) (λ c. search needs) (λ c. search needs) returns-2)

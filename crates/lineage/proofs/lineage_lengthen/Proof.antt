@@ -9,30 +9,6 @@ returns : tie.Need-returns
 unfolding Exported
 returns c = (c .if1 .taken, refl, (refl, refl))
 
-rule-of-requires : tie.Need-rule-of-requires
-rule-of-requires c κs = search needs
-
-lengthen-requires : tie.Need-lengthen-requires
-lengthen-requires c κs = search needs
-
-put-framed-requires : tie.Need-put-framed-requires
-put-framed-requires c κs = search needs
-
-same-length : tie.Need-same-length
-same-length c = search needs
-
-same-length-2 : tie.Need-same-length-2
-same-length-2 c = search needs
-
-same-length-3 : tie.Need-same-length-3
-same-length-3 c = search needs
-
-same-length-4 : tie.Need-same-length-4
-same-length-4 c = search needs
-
-same-length-5 : tie.Need-same-length-5
-same-length-5 c = search needs
-
 returns-2 : tie.Need-returns-2
 unfolding Exported
 returns-2 c =
@@ -48,16 +24,6 @@ returns-2 c =
     )
 
 pub lineage-lengthen-spec : {M : Type 1} → statement M
-lineage-lengthen-spec =
-    tie.close
-    (tie.spec
-    returns
-    rule-of-requires
-    lengthen-requires
-    put-framed-requires
-    same-length
-    same-length-2
-    same-length-3
-    same-length-4
-    same-length-5
-    returns-2)
+lineage-lengthen-spec = tie.close (tie.spec returns (λ c κs. search needs) (λ c κs. search needs)
+    (λ c κs. search needs) (λ c. search needs) (λ c. search needs) (λ c. search needs) (λ c. search needs)
+    (λ c. search needs) returns-2)

@@ -9,24 +9,6 @@ returns : tie.Need-returns
 unfolding Exported
 returns c = (c .if1 .taken, refl, (refl, refl, refl))
 
-read-tree-requires : tie.Need-read-tree-requires
-read-tree-requires c κs = search needs
-
-put-loaded-requires : tie.Need-put-loaded-requires
-put-loaded-requires c κs = search needs
-
-same-length : tie.Need-same-length
-same-length c = search needs
-
-same-length-2 : tie.Need-same-length-2
-same-length-2 c = search needs
-
-same-length-3 : tie.Need-same-length-3
-same-length-3 c = search needs
-
-same-length-4 : tie.Need-same-length-4
-same-length-4 c = search needs
-
 returns-2 : tie.Need-returns-2
 unfolding Exported
 returns-2 c =
@@ -41,14 +23,5 @@ returns-2 c =
     )
 
 pub lineage-read-tree-spec : {M : Type 1} → statement M
-lineage-read-tree-spec =
-    tie.close
-    (tie.spec
-    returns
-    read-tree-requires
-    put-loaded-requires
-    same-length
-    same-length-2
-    same-length-3
-    same-length-4
-    returns-2)
+lineage-read-tree-spec = tie.close (tie.spec returns (λ c κs. search needs) (λ c κs. search needs)
+    (λ c. search needs) (λ c. search needs) (λ c. search needs) (λ c. search needs) returns-2)

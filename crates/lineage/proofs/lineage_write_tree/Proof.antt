@@ -10,22 +10,10 @@ returns : tie.Need-returns
 unfolding Exported
 returns c = (c .if1 .taken, refl, (refl, refl))
 
-write-tree-requires : tie.Need-write-tree-requires
-write-tree-requires c κs = search needs
-
 put-saved-requires : tie.Need-put-saved-requires
 put-saved-requires c κs =
     let called = c .before .before .before .before .before in
     (called .before .before .before .if1 .left, written-short (called .write-tree .ensures))
-
-same-length : tie.Need-same-length
-same-length c = search needs
-
-same-length-2 : tie.Need-same-length-2
-same-length-2 c = search needs
-
-same-length-3 : tie.Need-same-length-3
-same-length-3 c = search needs
 
 returns-2 : tie.Need-returns-2
 unfolding Exported
@@ -41,13 +29,5 @@ returns-2 c =
     )
 
 pub lineage-write-tree-spec : {M : Type 1} → statement M
-lineage-write-tree-spec =
-    tie.close
-    (tie.spec
-    returns
-    write-tree-requires
-    put-saved-requires
-    same-length
-    same-length-2
-    same-length-3
-    returns-2)
+lineage-write-tree-spec = tie.close (tie.spec returns (λ c κs. search needs) put-saved-requires (λ c. search needs)
+    (λ c. search needs) (λ c. search needs) returns-2)

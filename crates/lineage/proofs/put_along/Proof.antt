@@ -11,12 +11,6 @@ cast-put-three c = wider (c .before .args .d) (c .before .good .1 .0)
 cast-put-three-2 : tie.Need-cast-put-three-2
 cast-put-three-2 c = wider (c .before .args .e) (c .before .good .1 .1 .0)
 
-put-three-requires : tie.Need-put-three-requires
-put-three-requires c κs = search needs
-
-same-length : tie.Need-same-length
-same-length c = search needs
-
 returns : tie.Need-returns
 returns c =
     let written = c .before in
@@ -24,5 +18,5 @@ returns c =
     written .put-three .ensures ∙ alike refl (wide _ (good .1 .0)) (wide _ (good .1 .1 .0))
 
 pub put-along-spec : {M : Type 1} → statement M
-put-along-spec =
-    tie.close (tie.spec cast-put-three cast-put-three-2 put-three-requires same-length returns)
+put-along-spec = tie.close (tie.spec cast-put-three cast-put-three-2 (λ c κs. search needs) (λ c. search needs)
+    returns)

@@ -6,21 +6,6 @@ use borrow.Author.Needs.{needs}
 use Rattle.lineage.proofs.put_heading.Statement.{statement}
 use Rattle.lineage.proofs.put_heading.Tie as tie
 
-enum-known-answer : tie.Need-enum-known-answer
-enum-known-answer c = search needs
-
-put-along-requires : tie.Need-put-along-requires
-put-along-requires c κs = search needs
-
-enum-known-answer-2 : tie.Need-enum-known-answer-2
-enum-known-answer-2 c = search needs
-
-put-numbers-requires : tie.Need-put-numbers-requires
-put-numbers-requires c κs = search needs
-
-same-length : tie.Need-same-length
-same-length c = search needs
-
 returns : tie.Need-returns
 unfolding headingReply
 returns c =
@@ -31,9 +16,6 @@ returns c =
     ∙ alike refl (back32 _ (told .known-told .given .0 .1)) (back32 _ (told .known-told .given .1 .0 .1))
     ∙ ap headingReply (sym (matched .answer .given .1))
 
-same-length-2 : tie.Need-same-length-2
-same-length-2 c = search needs
-
 returns-2 : tie.Need-returns-2
 unfolding headingReply
 returns-2 c =
@@ -42,14 +24,5 @@ returns-2 c =
     written .put-numbers .ensures ∙ ap headingReply (sym (matched .answer2 .given .1))
 
 pub put-heading-spec : {M : Type 1} → statement M
-put-heading-spec =
-    tie.close
-    (tie.spec
-    enum-known-answer
-    put-along-requires
-    enum-known-answer-2
-    put-numbers-requires
-    same-length
-    returns
-    same-length-2
-    returns-2)
+put-heading-spec = tie.close (tie.spec (λ c. search needs) (λ c κs. search needs) (λ c. search needs)
+    (λ c κs. search needs) (λ c. search needs) returns (λ c. search needs) returns-2)

@@ -6,21 +6,6 @@ use borrow.Author.Needs.{needs}
 use Rattle.lineage.proofs.put_numbers.Statement.{statement}
 use Rattle.lineage.proofs.put_numbers.Tie as tie
 
-cast-put-three : tie.Need-cast-put-three
-cast-put-three c = search needs
-
-cast-put-three-2 : tie.Need-cast-put-three-2
-cast-put-three-2 c = search needs
-
-cast-put-three-3 : tie.Need-cast-put-three-3
-cast-put-three-3 c = search needs
-
-put-three-requires : tie.Need-put-three-requires
-put-three-requires c κs = search needs
-
-same-length : tie.Need-same-length
-same-length c = search needs
-
 returns : tie.Need-returns
 returns c =
     let written = c .before in
@@ -29,12 +14,5 @@ returns c =
     ∙ alike (natural (args .a) (omega arith)) (natural (args .b) (omega arith)) (natural (args .c) (omega arith))
 
 pub put-numbers-spec : {M : Type 1} → statement M
-put-numbers-spec =
-    tie.close
-    (tie.spec
-    cast-put-three
-    cast-put-three-2
-    cast-put-three-3
-    put-three-requires
-    same-length
-    returns)
+put-numbers-spec = tie.close (tie.spec (λ c. search needs) (λ c. search needs) (λ c. search needs)
+    (λ c κs. search needs) (λ c. search needs) returns)

@@ -18,94 +18,47 @@ Inv-loop rule parent rank times₀ x₀ y₀ work₀ kinds lots counts m i₀ ti
 abbrev μ-loop : tie.MeasureT-loop
 μ-loop rule parent rank times₀ x₀ y₀ work₀ kinds lots counts m i₀ times x y work i = length kinds - i
 
+-- once the call of this turn is made
+module _ (c : tie.After-work Inv-loop μ-loop) where
+  abbrev called : tie.After-make-call Inv-loop μ-loop
+  called = c .before .before .before .before .before .before .before
+
+  abbrev going-on : tie.In-loop Inv-loop μ-loop
+  going-on = called .before .before .before .before .before .before .before .before
+
+  abbrev turn : tie.At-loop Inv-loop μ-loop
+  turn = going-on .before
+
+  abbrev start : tie.Start Inv-loop μ-loop
+  start = turn .before .before .before .before .before .before .before .before .before .before
+
 loop-holds : tie.Need-loop-holds Inv-loop μ-loop
 loop-holds c = (running-start _ _ _ _ _ _ _ _ _, refl, refl, refl, refl)
 
-mul-kind : tie.Need-mul-kind Inv-loop μ-loop
-mul-kind c = omega arith
-
-shared-slice-read-kind : tie.Need-shared-slice-read-kind Inv-loop μ-loop
-shared-slice-read-kind c = omega arith
-
-mul-lot : tie.Need-mul-lot Inv-loop μ-loop
-mul-lot c = omega arith
-
-shared-slice-read-lot : tie.Need-shared-slice-read-lot Inv-loop μ-loop
-shared-slice-read-lot c = omega arith
-
-mul-count : tie.Need-mul-count Inv-loop μ-loop
-mul-count c = omega arith
-
-shared-slice-read-count : tie.Need-shared-slice-read-count Inv-loop μ-loop
-shared-slice-read-count c = omega arith
-
-make-call-requires : tie.Need-make-call-requires Inv-loop μ-loop
-make-call-requires c κs = search needs
-
 add-i : tie.Need-add-i Inv-loop μ-loop
 add-i c =
-    let at-loop-test =
-    c .before .before .before .before .before .before .before .before .before .before .before .before .before .before
-    .before .before in
-    let at-entry =
-    at-loop-test .before .before .before .before .before .before .before .before .before .before .before in
+    let test = going-on (c .before) in
+    let given = start (c .before) in
     omega arith
-
-loop-less : tie.Need-loop-less Inv-loop μ-loop
-loop-less c = omega arith
 
 loop-again : tie.Need-loop-again Inv-loop μ-loop
 loop-again c =
-    let at-make-call = c .before .before .before .before .before .before .before .before in
-    let at-loop-test = at-make-call .before .before .before .before .before .before .before .before in
-    let at-loop = at-loop-test .before in (
-      running-step (at-loop .loop .inv .0) (at-loop-test .loop-test .taken) (at-loop .loop .inv .4) refl refl refl
-          (at-make-call .make-call .ensures),
-      at-make-call .make-call .kept .1 .1 .1 .0
-          ∙ at-loop .loop .inv .1,
-      at-make-call .make-call .kept .1 .1 .1 .1 .0
-          ∙ at-loop .loop .inv .2,
-      at-make-call .make-call .kept .1 .1 .1 .1 .1 .0
-          ∙ at-loop .loop .inv .3,
-      at-make-call .make-call .kept .1 .1 .1 .1 .1 .1 .0 ∙ at-loop .loop .inv .4,
+    let made = called (c .before) .make-call in
+    let inv = turn (c .before) .loop .inv in (
+      running-step (inv .0) (going-on (c .before) .loop-test .taken) (inv .4) refl refl refl (made .ensures),
+      made .kept .1 .1 .1 .0 ∙ inv .1,
+      made .kept .1 .1 .1 .1 .0 ∙ inv .2,
+      made .kept .1 .1 .1 .1 .1 .0 ∙ inv .3,
+      made .kept .1 .1 .1 .1 .1 .1 .0 ∙ inv .4,
     )
 
-same-length : tie.Need-same-length Inv-loop μ-loop
-same-length c = omega arith
-
-same-length-2 : tie.Need-same-length-2 Inv-loop μ-loop
-same-length-2 c = omega arith
-
-same-length-3 : tie.Need-same-length-3 Inv-loop μ-loop
-same-length-3 c = omega arith
-
-same-length-4 : tie.Need-same-length-4 Inv-loop μ-loop
-same-length-4 c = omega arith
-
 returns : tie.Need-returns Inv-loop μ-loop
-returns c =
-    let at-loop = c .before in
-    running-end (at-loop .loop .inv .0) (c .loop-test .left)
+returns c = running-end (c .before .loop .inv .0) (c .loop-test .left)
 
 pub make-calls-spec : {M : Type 1} → statement M
-make-calls-spec =
-    tie.close
-    (tie.spec
-    Inv-loop
-    μ-loop
-    loop-holds
-    mul-kind
-    shared-slice-read-kind
-    mul-lot
-    shared-slice-read-lot
-    mul-count
-    shared-slice-read-count
-    make-call-requires
-    add-i
-    loop-less
-    loop-again
-    same-length
-    same-length-2
-    same-length-3
-    same-length-4
+make-calls-spec = tie.close (tie.spec Inv-loop μ-loop
+    loop-holds (λ c. omega arith) (λ c. omega arith) (λ c. omega arith) (λ c. omega arith) (λ c. omega arith)
+    (λ c. omega arith) (λ c κs. search needs)
+    add-i (λ c. omega arith)
+    loop-again (λ c. omega arith) (λ c. omega arith) (λ c. omega arith) (λ c. omega arith)
     returns)
