@@ -1,5 +1,5 @@
-// The C interface. Each call writes its answer into a reply of three numbers and returns true; where the reply is not
-// three long it writes nothing at all and returns false. include/lineage.h says what the numbers mean.
+// The C interface. Each call that takes a reply writes its answer into it, three numbers, and returns true; where the
+// reply is not three long it writes nothing at all and returns false. include/lineage.h says what the numbers mean.
 pub mod replay;
 
 use direction::Heading;
@@ -16,6 +16,7 @@ ghost use Rattle.drawing.specs.Drawing.{lent, Laid, Lengthened, Shortened};
 ghost use Rattle.direction.specs.Direction.{Directed};
 ghost use Rattle.monotone.specs.Monotone.{Checked};
 ghost use Rattle.treefile.specs.Bytes.{Read, Wrote};
+ghost use Rattle.treefile.specs.TreeFile.{statedOrZero};
 ghost use Rattle.lineage.specs.Exports.{ruleOf, three, framedReply, headingReply, verdictReply, loadedReply};
 ghost use Rattle.lineage.specs.Exports.{savedReply, Short, Exported};
 
@@ -271,6 +272,15 @@ pub extern "C" fn lineage_check(
     let answer = monotone::check(parent, rank, x, y, work);
     put_verdict(reply, answer);
     true
+}
+
+// The number of lots that a tree file states, or 0 where it has fewer than 4 bytes: how long the lists must be that the
+// reader is lent.
+#[no_mangle]
+pub extern "C" fn lineage_stated_nodes(bytes: &[u8]) -> u32
+    ensures { λ r. ⌜ r ≡ statedOrZero (now (bytes .entry)) ⌝ }
+{
+    treefile::stated_nodes(bytes)
 }
 
 // Reads a tree file: {1, n, 0}, or {0, number, node} where it is refused.

@@ -4,13 +4,14 @@
 --   wordAt B i             == the number in the 4 bytes from i on
 --   words B i n            == n such numbers, one after the other
 --   statedNodes B          == n as the file states it
+--   statedOrZero B         == the same, or 0 where the file has fewer than 4 bytes
 --   fileParents, fileRanks == the table that the file holds
 --   bytesOf w              == a number's 4 bytes
 --   fileOf P R             == the file of a table
 --   openFault L ..         == refusals 16, 1, 2, 17 and 3, which leave the work list alone
 --   readTree L ..          == the reader: what it answers, and the two lists that it leaves
 --   writeTree L ..         == the writer: what it answers, and the bytes that it leaves
-use mathlib.Core.Bool.{true, not, _&&_}
+use mathlib.Core.Bool.{true, cond, not, _&&_}
 use mathlib.Core.List.{List, [], _∷_, _++_}
 use mathlib.Core.Option.{Option, none, some}
 use Prim.Native.Nat.{ℕ, _+_, _*_, _/_, _%_}
@@ -45,6 +46,9 @@ allBytes (w ∷ l) = bytesOf w ++ allBytes l
 
 unfoldable pub statedNodes : List ℕ → ℕ
 statedNodes B = wordAt B 0
+
+unfoldable pub statedOrZero : List ℕ → ℕ
+statedOrZero B = cond (ltb (length B) 4) 0 (statedNodes B)
 
 unfoldable pub fileParents : List ℕ → List ℕ
 fileParents B = words B 4 (statedNodes B)

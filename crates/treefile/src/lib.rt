@@ -7,7 +7,7 @@ ghost use lib.ListN.{length, getD};
 ghost use Rattle.laws.specs.Regions.{Only};
 ghost use Rattle.table.specs.Table.{large};
 ghost use Rattle.treefile.specs.Bytes.{Copied, Opened, Checked, Read, WordPut, Encoded, Wrote};
-ghost use Rattle.treefile.specs.TreeFile.{wordAt, words};
+ghost use Rattle.treefile.specs.TreeFile.{wordAt, words, statedOrZero};
 
 // What the reader answers: the number of nodes, or a refusal with its number and node.
 pub enum Loaded {
@@ -37,6 +37,17 @@ fn word(bytes: &[u8], i: usize) -> usize
     let low = byte(bytes, i) + 256 * byte(bytes, i + 1);
     let high = byte(bytes, i + 2) + 256 * byte(bytes, i + 3);
     low + 65536 * high
+}
+
+// The number of nodes that a tree file states, or 0 where it has fewer than 4 bytes.
+pub fn stated_nodes(bytes: &[u8]) -> u32
+    ensures { λ r. ⌜ r ≡ statedOrZero (now (bytes .entry)) ⌝ }
+{
+    let size = bytes.len();
+    if size < 4 {
+        return 0;
+    }
+    word(bytes, 0) as u32
 }
 
 // Fills the list with the numbers in the bytes from a on.
