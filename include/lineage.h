@@ -1,8 +1,8 @@
 /*
  * lineage.h - lineage sheets on the grid: monotone drawings of rooted trees with whole-number places.
  *
- * Link with liblineage.a (`rt staticlib lineage` writes target/staticlib/liblineage.a). Every function below is proved
- * to do what its contract in crates/lineage/src/lib.rt says, for all lists of all lengths.
+ * Link with liblineage.so or liblineage.a; `tools/package PREFIX` writes both, with a file for pkg-config. Every
+ * function below is proved to do what its contract in crates/lineage/src/lib.rt says, for all lists of all lengths.
  *
  * A table of n lots, 1 to 65,536, is two lists of n numbers:
  *     parent[v]   the lot that v hangs on; the root is lot 0, with parent 0
@@ -22,29 +22,10 @@
  *     free. Refusals 1, 2, 3 and 14, and the reader's 16 and 17, leave it as it was.
  *   - `reply` is three numbers, which the call sets. Where reply_length is not 3 the call returns false and changes
  *     nothing at all; otherwise it returns true.
- *   - A reply of {0, number, lot} is a refusal: the call changed no list but `work`. Any other reply is given below.
+ *   - A reply of {0, number, lot} is a refusal: the call changed no list but `work`. The number is that of the first
+ *     ground that applies, in the order that stands with the call. The lot is the smallest of which it is true with 5,
+ *     6, 7, 8 and 15, the lot that was asked for with 11 and 12, and 0 otherwise. Any other reply is given below.
  *   - No call allocates, recurses, locks or keeps anything between calls. Calls on different lists may run at once.
- *
- * Refusals: the first that applies, in this order. In brackets: the calls, where it is not all of them. The lot is the
- * smallest of which it is true with 5, 6, 7, 8 and 15, the lot that was asked for with 11 and 12, and 0 otherwise.
- *   16  a tree file has fewer than 4 bytes                                     [read_tree]
- *    1  n is 0
- *    2  n is above 65,536                                                      [all but check]
- *   14  n is above 4,096                                                       [check]
- *   17  a tree file is not 4 + 8n bytes long                                   [read_tree; write_tree, there last]
- *    3  a lent list is not n long, or the work list not 4n
- *    4  lot 0's parent or rank is not 0
- *    5  a lot's parent is n or more
- *    6  a lot's rank is not below its parent's number of children, or a sibling has it too
- *    7  a lot's parents never lead to lot 0
- *    8  not a sheet: a lot's times or place breaks the rule, or a place is above 2,147,483,647
- *                                                                              [lengthen, shorten]
- *    9  there is no such lot                                                   [lengthen, shorten, direction]
- *   10  the root has no edge                                                   [lengthen, shorten]
- *   11  some place would be above 2,147,483,647                                [lengthen]
- *   12  the count is not below the lot's times                                 [shorten]
- *   13  both lots are the same                                                 [direction]
- *   15  x or y of a lot is above 2,147,483,647                                 [check]
  */
 #ifndef LINEAGE_H
 #define LINEAGE_H
@@ -56,6 +37,55 @@
 #ifdef __cplusplus
 extern "C" {
 #endif
+
+/* The version of the library that this header belongs to. */
+#define LINEAGE_VERSION "0.1.0"
+#define LINEAGE_VERSION_MAJOR 0
+#define LINEAGE_VERSION_MINOR 1
+#define LINEAGE_VERSION_PATCH 0
+
+/* The most lots of a table, the most that the check takes, and the largest x and y on a sheet. */
+#define LINEAGE_MAX_LOTS 65536
+#define LINEAGE_CHECK_LOTS 4096
+#define LINEAGE_MAX_PLACE 2147483647
+
+/* Why a call refuses: the second number of a reply that is a refusal. */
+enum lineage_refusal {
+    /* there are no lots */
+    LINEAGE_NO_LOTS = 1,
+    /* there are more than 65,536 lots */
+    LINEAGE_TOO_MANY_LOTS = 2,
+    /* a lent list is not n long, or the work list not 4n */
+    LINEAGE_WRONG_LENGTH = 3,
+    /* the parent and rank of lot 0 are not both 0 */
+    LINEAGE_WRONG_ROOT = 4,
+    /* the lot's parent is not a lot of the table */
+    LINEAGE_NO_SUCH_PARENT = 5,
+    /* the lot's rank is not below its parent's number of children, or a sibling has it too */
+    LINEAGE_WRONG_RANK = 6,
+    /* the lot's parents never lead to lot 0 */
+    LINEAGE_LOOP = 7,
+    /* the lists are no sheet of the table and rule: the lot's times or place is wrong */
+    LINEAGE_NO_SHEET = 8,
+    /* there is no such lot */
+    LINEAGE_NO_SUCH_LOT = 9,
+    /* the root has no edge */
+    LINEAGE_NO_EDGE = 10,
+    /* some place would be above 2,147,483,647 */
+    LINEAGE_WOULD_PASS_MAX_PLACE = 11,
+    /* the count is not below the lot's times */
+    LINEAGE_COUNT_TOO_LARGE = 12,
+    /* both lots are the same */
+    LINEAGE_SAME_LOT = 13,
+    /* there are more than 4,096 lots */
+    LINEAGE_TOO_MANY_TO_CHECK = 14,
+    /* the lot's place is above 2,147,483,647 */
+    LINEAGE_PASSES_MAX_PLACE = 15,
+    /* the tree file has fewer than 4 bytes */
+    LINEAGE_FILE_TOO_SHORT = 16,
+    /* the tree file is not 4 + 8n bytes long */
+    LINEAGE_WRONG_FILE_LENGTH = 17
+};
 
 /* Writes the fresh sheet, every times 1, into times, x and y. Reply: {1, width, height}, the largest x and y.
  * Refusals 1 to 7. */
@@ -90,6 +120,10 @@ bool lineage_direction(bool balanced, const uint32_t *parent, size_t parent_leng
 bool lineage_check(const uint32_t *parent, size_t parent_length, const uint32_t *rank, size_t rank_length,
                    const uint32_t *x, size_t x_length, const uint32_t *y, size_t y_length, uint32_t *work,
                    size_t work_length, int64_t *reply, size_t reply_length);
+
+/* The n that a tree file states, or 0 where it has fewer than 4 bytes: how long the lists must be that the reader is
+ * lent. It may be above LINEAGE_MAX_LOTS; the reader then refuses, whatever it is lent. */
+uint32_t lineage_stated_nodes(const uint8_t *bytes, size_t bytes_length);
 
 /* Reads a tree file: n, then n parents, then n ranks, each in 4 bytes, least byte first. The two lists must be as long
  * as the file's n says, and are filled only where its table is accepted. Reply: {1, n, 0}.

@@ -1,4 +1,4 @@
-/* Document 01's five-lot example through the C interface. */
+/* Document 01's five-lot example through the C interface. It is C99, and C++ too. */
 #include <stdio.h>
 #include <string.h>
 
@@ -28,6 +28,11 @@ static bool replied(bool called, int64_t a, int64_t b, int64_t c)
     return called && reply[0] == a && reply[1] == b && reply[2] == c;
 }
 
+static bool refused(bool called, enum lineage_refusal number, uint32_t lot)
+{
+    return replied(called, 0, number, lot);
+}
+
 static const uint32_t parent[5] = {0, 0, 0, 1, 1}, ranks[5] = {0, 0, 1, 0, 1};
 static uint32_t times[5], x[5], y[5], work[20];
 
@@ -41,7 +46,7 @@ static bool is_fresh_steep(void)
     return are(times, 1, 1, 1, 1, 1) && are(x, 0, 1, 1, 2, 2) && are(y, 0, 3, 4, 4, 5);
 }
 
-int main(void)
+static void sheets(void)
 {
     expect("a reply of two numbers", !lineage_layout(false, TABLE, SHEET, WORK, reply, 2));
     expect("steep frame", replied(lineage_layout(false, TABLE, SHEET, WORK, REPLY), 1, 2, 5));
@@ -50,30 +55,60 @@ int main(void)
 
     expect("lengthen lot 1 by 2", replied(lineage_lengthen(false, TABLE, SHEET, WORK, 1, 2, REPLY), 1, 4, 11));
     expect("lots 1, 3 and 4 moved", are(times, 1, 3, 1, 1, 1) && are(x, 0, 3, 1, 4, 4) && are(y, 0, 9, 4, 10, 11));
-    expect("shorten by 3", replied(lineage_shorten(false, TABLE, SHEET, WORK, 1, 3, REPLY), 0, 12, 1));
+    expect("shorten by 3",
+           refused(lineage_shorten(false, TABLE, SHEET, WORK, 1, 3, REPLY), LINEAGE_COUNT_TOO_LARGE, 1));
     expect("shorten by 2", replied(lineage_shorten(false, TABLE, SHEET, WORK, 1, 2, REPLY), 1, 2, 5));
     expect("the fresh sheet is back", is_fresh_steep());
 
+    expect("balanced frame", replied(lineage_layout(true, TABLE, SHEET, WORK, REPLY), 1, 6, 3));
+    expect("balanced sheet", are(x, 0, 3, 1, 6, 5) && are(y, 0, 2, 1, 3, 3));
+}
+
+static void directions(void)
+{
     expect("direction 3 to 2", replied(lineage_direction(false, TABLE, WORK, 3, 2, REPLY), 1, -7, 2));
     expect("direction 2 to 3", replied(lineage_direction(false, TABLE, WORK, 2, 3, REPLY), 1, 7, -2));
     expect("direction 4 to 3", replied(lineage_direction(false, TABLE, WORK, 4, 3, REPLY), 1, 3, -2));
     expect("direction 0 to 4", replied(lineage_direction(false, TABLE, WORK, 0, 4, REPLY), 1, 1, 1));
-    expect("direction 2 to 2", replied(lineage_direction(false, TABLE, WORK, 2, 2, REPLY), 0, 13, 0));
+    expect("direction 2 to 2", refused(lineage_direction(false, TABLE, WORK, 2, 2, REPLY), LINEAGE_SAME_LOT, 0));
+}
 
-    expect("balanced frame", replied(lineage_layout(true, TABLE, SHEET, WORK, REPLY), 1, 6, 3));
-    expect("balanced sheet", are(x, 0, 3, 1, 6, 5) && are(y, 0, 2, 1, 3, 3));
+static void checks(void)
+{
+    const uint32_t chain[4] = {0, 0, 1, 2}, first[4] = {0, 0, 0, 0}, across[4] = {0, 1, 1, 0}, up[4] = {0, 0, 1, 1};
+    expect("a chain that turns",
+           replied(lineage_check(chain, 4, first, 4, across, 4, up, 4, work, 16, REPLY), 2, 0, 3));
 
-    const uint32_t chain[4] = {0, 0, 1, 2}, first[4] = {0}, across[4] = {0, 1, 1, 0}, up[4] = {0, 0, 1, 1};
-    expect("a chain that turns", replied(lineage_check(chain, 4, first, 4, across, 4, up, 4, work, 16, REPLY), 2, 0, 3));
+    const uint32_t far[4] = {0, LINEAGE_MAX_PLACE, 0, LINEAGE_MAX_PLACE + UINT32_C(1)};
+    expect("a place beyond", refused(lineage_check(chain, 4, first, 4, far, 4, up, 4, work, 16, REPLY),
+                                     LINEAGE_PASSES_MAX_PLACE, 3));
+}
 
+static void files(void)
+{
     uint8_t file[44];
-    uint32_t p[5], r[5];
     expect("tree file written", replied(lineage_write_tree(TABLE, file, 44, WORK, REPLY), 1, 44, 0));
     expect("its first bytes", memcmp(file, "\5\0\0\0\0\0\0\0\0\0\0\0\0\0\0\0\1\0\0\0", 20) == 0);
+    expect("it states 5 lots", lineage_stated_nodes(file, 44) == 5 && lineage_stated_nodes(file, 4) == 5);
+    expect("3 bytes state none", lineage_stated_nodes(file, 3) == 0);
+
+    uint32_t p[5], r[5];
     expect("tree file read", replied(lineage_read_tree(file, 44, p, 5, r, 5, WORK, REPLY), 1, 5, 0));
     expect("the same table", memcmp(p, parent, sizeof p) == 0 && memcmp(r, ranks, sizeof r) == 0);
-    expect("a byte too few", replied(lineage_read_tree(file, 43, p, 5, r, 5, WORK, REPLY), 0, 17, 0));
+    expect("a byte too few",
+           refused(lineage_read_tree(file, 43, p, 5, r, 5, WORK, REPLY), LINEAGE_WRONG_FILE_LENGTH, 0));
 
+    file[3] = 1;
+    expect("too many are stated", lineage_stated_nodes(file, 44) == 5 + (UINT32_C(1) << 24));
+    expect("and refused", refused(lineage_read_tree(file, 44, p, 5, r, 5, WORK, REPLY), LINEAGE_TOO_MANY_LOTS, 0));
+}
+
+int main(void)
+{
+    sheets();
+    directions();
+    checks();
+    files();
     printf("%d passed, %d failed\n", passed, failed);
     return failed != 0;
 }

@@ -1,8 +1,11 @@
 //! Lineage sheets on the grid: drawings of a rooted tree with whole-number places in which, for any two nodes, some
 //! direction makes every edge of the path between them rise.
 //!
-//! All the work is done by the proved static library; this crate lends it lists and names what it answers. Document 01's
-//! words are kept: a node is a *lot*, a drawing a *sheet*, the bounding box from the root its *frame*.
+//! All the work is done by the proved static library; this crate lends it lists and names what it answers. Document
+//! 01's words are kept: a node is a *lot*, a drawing a *sheet*, the bounding box from the root its *frame*.
+//!
+//! The library is liblineage.a in the folder that the environment variable LINEAGE_LIB_DIR names, or else the
+//! repository's own, which the Rattle toolchain builds.
 //!
 //! ```
 //! use lineage::{Direction, Frame, Rule, Sheet, Tree};
@@ -25,8 +28,12 @@
 //! # Ok::<(), lineage::Refused>(())
 //! ```
 
-pub mod raw;
+#![warn(missing_docs, clippy::missing_panics_doc)]
 
+pub mod raw;
+mod refusal;
+
+pub use refusal::{Call, Ground, Refused, GROUNDS};
 use std::fmt;
 
 /// How edges get their slopes.
@@ -56,94 +63,20 @@ impl fmt::Display for Rule {
     }
 }
 
-/// The call that refused.
-#[derive(Clone, Copy, Debug, PartialEq, Eq)]
-pub enum Call {
-    Layout,
-    Lengthen,
-    Shorten,
-    Direction,
-    Check,
-    ReadTree,
-    WriteTree,
-}
+/// The most lots of a tree.
+pub const MAX_LOTS: u32 = 65_536;
 
-impl fmt::Display for Call {
-    fn fmt(&self, f: &mut fmt::Formatter<'_>) -> fmt::Result {
-        f.write_str(match self {
-            Call::Layout => "layout",
-            Call::Lengthen => "lengthen",
-            Call::Shorten => "shorten",
-            Call::Direction => "direction",
-            Call::Check => "check",
-            Call::ReadTree => "reading the tree file",
-            Call::WriteTree => "the table",
-        })
-    }
-}
+/// The most lots of a drawing that the check takes.
+pub const CHECK_LOTS: u32 = 4096;
 
-/// A refusal: what was asked, document 01's number of the ground, and the lot (0 where the ground names none).
-#[derive(Clone, Copy, Debug, PartialEq, Eq)]
-pub struct Refused {
-    pub call: Call,
-    pub number: u32,
-    pub lot: u32,
-}
+/// The largest x and y on a sheet.
+pub const MAX_PLACE: u32 = 2_147_483_647;
 
-impl Refused {
-    /// The ground, in words.
-    ///
-    /// ```
-    /// let refused = lineage::Tree::new(vec![0, 2, 1], vec![0, 0, 0]).unwrap_err();
-    /// assert_eq!((refused.number, refused.lot), (7, 1));
-    /// assert_eq!(refused.ground(), "the lot's parents never lead to lot 0");
-    /// ```
-    pub fn ground(&self) -> &'static str {
-        match self.number {
-            1 => "there are no lots",
-            2 => "there are more than 65,536 lots",
-            3 => "a list does not have the table's length",
-            4 => "the parent and rank of lot 0 are not both 0",
-            5 => "the lot's parent is not a lot of the table",
-            6 => "the lot's rank is not below its parent's number of children, or a sibling has it too",
-            7 => "the lot's parents never lead to lot 0",
-            8 => {
-                "the lists are not a sheet: the lot's times or place breaks the rule against its parent, or the limit"
-            }
-            9 => "there is no such lot",
-            10 => "the root has no edge",
-            11 => "some place would be beyond 2,147,483,647",
-            12 => "the count is not below the lot's times",
-            13 => "both lots are the same",
-            14 => "there are more than 4,096 lots",
-            15 => "the lot's place is beyond 2,147,483,647",
-            16 => "the file has fewer than 4 bytes",
-            17 => "the file does not have the length that its number of lots asks for",
-            _ => "unknown",
-        }
-    }
-
-    /// Whether the ground names a lot.
-    pub fn names_lot(&self) -> bool {
-        matches!(self.number, 5 | 6 | 7 | 8 | 11 | 12 | 15)
-    }
-}
-
-impl fmt::Display for Refused {
-    fn fmt(&self, f: &mut fmt::Formatter<'_>) -> fmt::Result {
-        write!(f, "{} refused ({})", self.call, self.number)?;
-        if self.names_lot() {
-            write!(f, " at lot {}", self.lot)?;
-        }
-        write!(f, ": {}", self.ground())
-    }
-}
-
-impl std::error::Error for Refused {}
-
-/// A reply's case and its two numbers, or the refusal that it is.
-fn opened(call: Call, called: bool, reply: raw::Reply) -> Result<(i64, i64, i64), Refused> {
-    assert!(called, "the reply has three numbers");
+/// Makes a call with a reply of three numbers, which it sets: the reply's case and its two numbers, or the refusal that
+/// it is.
+fn asked(call: Call, make: impl FnOnce(&mut raw::Reply) -> bool) -> Result<(i64, i64, i64), Refused> {
+    let mut reply = [0; 3];
+    make(&mut reply); // true, as the reply is three long
     match reply {
         [0, number, lot] => Err(Refused { call, number: number as u32, lot: lot as u32 }),
         [case, a, b] => Ok((case, a, b)),
@@ -175,16 +108,18 @@ impl Tree {
     /// # Ok::<(), lineage::Refused>(())
     /// ```
     pub fn from_bytes(bytes: &[u8]) -> Result<Tree, Refused> {
-        // lists as long as the file itself allows: the reader refuses any other stated n
-        let n = bytes.len().saturating_sub(4) / 8;
+        // where more are stated the reader refuses, whatever it is lent
+        let n = raw::stated_nodes(bytes).min(MAX_LOTS) as usize;
         let (mut parent, mut rank, mut work) = (vec![0; n], vec![0; n], vec![0; 4 * n]);
-        let mut reply = [0; 3];
-        let called = raw::read_tree(bytes, &mut parent, &mut rank, &mut work, &mut reply);
-        opened(Call::ReadTree, called, reply)?;
+        asked(Call::ReadTree, |reply| raw::read_tree(bytes, &mut parent, &mut rank, &mut work, reply))?;
         Ok(Tree { parent, rank })
     }
 
     /// The bytes of its tree file.
+    ///
+    /// # Panics
+    ///
+    /// Never: the lists of a `Tree` were accepted, and the writer accepts them again.
     pub fn to_bytes(&self) -> Vec<u8> {
         file_of(&self.parent, &self.rank).expect("an accepted table")
     }
@@ -247,25 +182,30 @@ impl Tree {
     }
 }
 
+/// The tree file of these lists, if they are a table.
 fn file_of(parent: &[u32], rank: &[u32]) -> Result<Vec<u8>, Refused> {
-    let n = parent.len();
-    let (mut bytes, mut work, mut reply) = (vec![0; 4 + 8 * n], vec![0; 4 * n], [0; 3]);
-    let called = raw::write_tree(parent, rank, &mut bytes, &mut work, &mut reply);
-    opened(Call::WriteTree, called, reply)?;
+    // where there are more lots the writer refuses, whatever it is lent
+    let n = parent.len().min(MAX_LOTS as usize);
+    let (mut bytes, mut work) = (vec![0; 4 + 8 * n], vec![0; 4 * n]);
+    asked(Call::WriteTree, |reply| raw::write_tree(parent, rank, &mut bytes, &mut work, reply))?;
     Ok(bytes)
 }
 
 /// The largest x and the largest y of a sheet.
 #[derive(Clone, Copy, Debug, PartialEq, Eq)]
 pub struct Frame {
+    /// The largest x.
     pub width: u32,
+    /// The largest y.
     pub height: u32,
 }
 
 /// An edge (across, up) rises along it when d × across + e × up is above 0.
 #[derive(Clone, Copy, Debug, PartialEq, Eq)]
 pub struct Direction {
+    /// How far across.
     pub d: i32,
+    /// How far up.
     pub e: i32,
 }
 
@@ -294,9 +234,8 @@ pub enum Verdict {
 /// # Ok::<(), lineage::Refused>(())
 /// ```
 pub fn check(tree: &Tree, x: &[u32], y: &[u32]) -> Result<Verdict, Refused> {
-    let (mut work, mut reply) = (vec![0; 4 * tree.lots()], [0; 3]);
-    let called = raw::check(&tree.parent, &tree.rank, x, y, &mut work, &mut reply);
-    Ok(match opened(Call::Check, called, reply)? {
+    let mut work = vec![0; 4 * tree.lots()];
+    Ok(match asked(Call::Check, |reply| raw::check(&tree.parent, &tree.rank, x, y, &mut work, reply))? {
         (1, _, _) => Verdict::Monotone,
         (_, u, v) => Verdict::Turns(u as u32, v as u32),
     })
@@ -304,13 +243,25 @@ pub fn check(tree: &Tree, x: &[u32], y: &[u32]) -> Result<Verdict, Refused> {
 
 /// A direction along which every edge of the tree path from one lot to another rises, on every sheet under the rule.
 pub fn direction(tree: &Tree, rule: Rule, from: u32, to: u32) -> Result<Direction, Refused> {
-    let (mut work, mut reply) = (vec![0; 4 * tree.lots()], [0; 3]);
-    let called = raw::direction(rule.balanced(), &tree.parent, &tree.rank, &mut work, from, to, &mut reply);
-    let (_, d, e) = opened(Call::Direction, called, reply)?;
+    let (balanced, mut work) = (rule.balanced(), vec![0; 4 * tree.lots()]);
+    let (_, d, e) = asked(Call::Direction, |reply| {
+        raw::direction(balanced, &tree.parent, &tree.rank, &mut work, from, to, reply)
+    })?;
     Ok(Direction { d: d as i32, e: e as i32 })
 }
 
-/// A tree drawn under a rule.
+/// A tree drawn under a rule. Two sheets are equal where tree, rule, times and places are.
+///
+/// ```
+/// use lineage::{Rule, Sheet, Tree};
+/// let fresh = Sheet::new(Tree::new(vec![0, 0], vec![0, 0])?, Rule::Steep)?;
+/// let mut sheet = fresh.clone();
+/// sheet.lengthen(1, 2)?;
+/// assert_ne!(sheet, fresh);
+/// sheet.shorten(1, 2)?;
+/// assert_eq!(sheet, fresh);
+/// # Ok::<(), lineage::Refused>(())
+/// ```
 #[derive(Clone, Debug)]
 pub struct Sheet {
     tree: Tree,
@@ -329,24 +280,26 @@ impl Sheet {
         let (times, x, y, work) = (vec![0; n], vec![0; n], vec![0; n], vec![0; 4 * n]);
         let frame = Frame { width: 0, height: 0 };
         let mut sheet = Sheet { tree, rule, times, x, y, work, frame };
-        let (mut reply, (balanced, parent, rank, lists, work)) = ([0; 3], sheet.lent());
-        let called = raw::layout(balanced, parent, rank, lists, work, &mut reply);
-        sheet.framed(Call::Layout, called, reply)?;
+        let (balanced, parent, rank, lists, work) = sheet.lent();
+        let answer = asked(Call::Layout, |reply| raw::layout(balanced, parent, rank, lists, work, reply));
+        sheet.framed(answer)?;
         Ok(sheet)
     }
 
     /// Makes the edge of a lot longer by `count` times its slope; its whole subtree moves along.
     pub fn lengthen(&mut self, lot: u32, count: u32) -> Result<Frame, Refused> {
-        let (mut reply, (balanced, parent, rank, lists, work)) = ([0; 3], self.lent());
-        let called = raw::lengthen(balanced, parent, rank, lists, work, lot, count, &mut reply);
-        self.framed(Call::Lengthen, called, reply)
+        let (balanced, parent, rank, lists, work) = self.lent();
+        let answer =
+            asked(Call::Lengthen, |reply| raw::lengthen(balanced, parent, rank, lists, work, lot, count, reply));
+        self.framed(answer)
     }
 
     /// Makes it shorter again, to at least one times its slope.
     pub fn shorten(&mut self, lot: u32, count: u32) -> Result<Frame, Refused> {
-        let (mut reply, (balanced, parent, rank, lists, work)) = ([0; 3], self.lent());
-        let called = raw::shorten(balanced, parent, rank, lists, work, lot, count, &mut reply);
-        self.framed(Call::Shorten, called, reply)
+        let (balanced, parent, rank, lists, work) = self.lent();
+        let answer =
+            asked(Call::Shorten, |reply| raw::shorten(balanced, parent, rank, lists, work, lot, count, reply));
+        self.framed(answer)
     }
 
     /// What a call that changes the sheet borrows.
@@ -355,8 +308,8 @@ impl Sheet {
         (self.rule.balanced(), &self.tree.parent, &self.tree.rank, lists, &mut self.work)
     }
 
-    fn framed(&mut self, call: Call, called: bool, reply: raw::Reply) -> Result<Frame, Refused> {
-        let (_, width, height) = opened(call, called, reply)?;
+    fn framed(&mut self, answer: Result<(i64, i64, i64), Refused>) -> Result<Frame, Refused> {
+        let (_, width, height) = answer?;
         self.frame = Frame { width: width as u32, height: height as u32 };
         Ok(self.frame)
     }
@@ -371,14 +324,17 @@ impl Sheet {
         check(&self.tree, &self.x, &self.y)
     }
 
+    /// The tree that is drawn.
     pub fn tree(&self) -> &Tree {
         &self.tree
     }
 
+    /// The rule that it is drawn under.
     pub fn rule(&self) -> Rule {
         self.rule
     }
 
+    /// The largest x and the largest y.
     pub fn frame(&self) -> Frame {
         self.frame
     }
@@ -388,10 +344,12 @@ impl Sheet {
         &self.times
     }
 
+    /// Each lot's x.
     pub fn x(&self) -> &[u32] {
         &self.x
     }
 
+    /// Each lot's y.
     pub fn y(&self) -> &[u32] {
         &self.y
     }
@@ -401,3 +359,13 @@ impl Sheet {
         Some((*self.x.get(lot as usize)?, *self.y.get(lot as usize)?))
     }
 }
+
+impl PartialEq for Sheet {
+    fn eq(&self, other: &Sheet) -> bool {
+        // the frame follows from the places, and what the work list holds means nothing
+        (&self.tree, self.rule, &self.times, &self.x, &self.y)
+            == (&other.tree, other.rule, &other.times, &other.x, &other.y)
+    }
+}
+
+impl Eq for Sheet {}

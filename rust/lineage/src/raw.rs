@@ -34,6 +34,7 @@ mod c {
             parent: In, parents: usize, rank: In, ranks: usize, x: In, x_length: usize, y: In, y_length: usize,
             work: InOut, work_length: usize, reply: *mut i64, reply_length: usize,
         ) -> bool;
+        pub fn lineage_stated_nodes(bytes: *const u8, bytes_length: usize) -> u32;
         pub fn lineage_read_tree(
             bytes: *const u8, bytes_length: usize, parent: InOut, parents: usize, rank: InOut, ranks: usize,
             work: InOut, work_length: usize, reply: *mut i64, reply_length: usize,
@@ -50,8 +51,11 @@ pub type Reply = [i64; 3];
 
 /// The three lists of a sheet, lent to a call.
 pub struct Lists<'a> {
+    /// How many times its slope each lot's edge is long.
     pub times: &'a mut [u32],
+    /// Each lot's x.
     pub x: &'a mut [u32],
+    /// Each lot's y.
     pub y: &'a mut [u32],
 }
 
@@ -124,6 +128,13 @@ pub fn check(parent: &[u32], rank: &[u32], x: &[u32], y: &[u32], work: &mut [u32
     let ((w, wn), (q, qn)) = (lend_mut!(work), lend_mut!(reply));
     // SAFETY: as in `layout`.
     unsafe { c::lineage_check(p, pn, r, rn, x, xn, y, yn, w, wn, q, qn) }
+}
+
+/// The n that a tree file states, or 0 where it has fewer than 4 bytes.
+pub fn stated_nodes(bytes: &[u8]) -> u32 {
+    let (b, bn) = lend!(bytes);
+    // SAFETY: as in `layout`.
+    unsafe { c::lineage_stated_nodes(b, bn) }
 }
 
 /// {1, n, 0}.

@@ -1,0 +1,110 @@
+//! What the calls refuse with.
+
+use std::fmt;
+
+/// The call that refused.
+#[derive(Clone, Copy, Debug, PartialEq, Eq)]
+pub enum Call {
+    /// [`Sheet::new`](crate::Sheet::new).
+    Layout,
+    /// [`Sheet::lengthen`](crate::Sheet::lengthen).
+    Lengthen,
+    /// [`Sheet::shorten`](crate::Sheet::shorten).
+    Shorten,
+    /// [`direction`](crate::direction()).
+    Direction,
+    /// [`check`](crate::check()).
+    Check,
+    /// [`Tree::from_bytes`](crate::Tree::from_bytes).
+    ReadTree,
+    /// [`Tree::new`](crate::Tree::new), which asks the writer whether the table is accepted.
+    WriteTree,
+}
+
+impl fmt::Display for Call {
+    fn fmt(&self, f: &mut fmt::Formatter<'_>) -> fmt::Result {
+        f.write_str(match self {
+            Call::Layout => "layout",
+            Call::Lengthen => "lengthen",
+            Call::Shorten => "shorten",
+            Call::Direction => "direction",
+            Call::Check => "check",
+            Call::ReadTree => "reading the tree file",
+            Call::WriteTree => "the table",
+        })
+    }
+}
+
+/// A ground on which calls refuse.
+#[derive(Clone, Copy, Debug, PartialEq, Eq)]
+pub struct Ground {
+    /// Document 01's number.
+    pub number: u32,
+    /// Its name in `include/lineage.h`, after `LINEAGE_`.
+    pub name: &'static str,
+    /// Whether it names a lot; where it does not, a refusal's lot is 0.
+    pub names_lot: bool,
+    /// The ground, in words.
+    pub words: &'static str,
+    /// What to do.
+    pub remedy: &'static str,
+}
+
+/// All grounds, by number from 1: the table of `include/refusals.txt`.
+///
+/// ```
+/// assert_eq!(lineage::GROUNDS[6].number, 7);
+/// assert_eq!(lineage::GROUNDS[6].words, "the lot's parents never lead to lot 0");
+/// assert_eq!(lineage::GROUNDS[6].remedy, "break the loop");
+/// ```
+pub static GROUNDS: [Ground; 17] = include!(concat!(env!("OUT_DIR"), "/grounds.rs"));
+
+/// A refusal: what was asked, document 01's number of the ground, and the lot (0 where the ground names none).
+#[derive(Clone, Copy, Debug, PartialEq, Eq)]
+pub struct Refused {
+    /// What was asked.
+    pub call: Call,
+    /// The number of the ground.
+    pub number: u32,
+    /// The lot.
+    pub lot: u32,
+}
+
+impl Refused {
+    fn entry(&self) -> Option<&'static Ground> {
+        GROUNDS.iter().find(|ground| ground.number == self.number)
+    }
+
+    /// The ground, in words.
+    ///
+    /// ```
+    /// let refused = lineage::Tree::new(vec![0, 2, 1], vec![0, 0, 0]).unwrap_err();
+    /// assert_eq!((refused.number, refused.lot), (7, 1));
+    /// assert_eq!(refused.ground(), "the lot's parents never lead to lot 0");
+    /// ```
+    pub fn ground(&self) -> &'static str {
+        self.entry().map_or("unknown", |ground| ground.words)
+    }
+
+    /// What to do, in words.
+    pub fn remedy(&self) -> &'static str {
+        self.entry().map_or("unknown", |ground| ground.remedy)
+    }
+
+    /// Whether the ground names a lot.
+    pub fn names_lot(&self) -> bool {
+        self.entry().is_some_and(|ground| ground.names_lot)
+    }
+}
+
+impl fmt::Display for Refused {
+    fn fmt(&self, f: &mut fmt::Formatter<'_>) -> fmt::Result {
+        write!(f, "{} refused ({})", self.call, self.number)?;
+        if self.names_lot() {
+            write!(f, " at lot {}", self.lot)?;
+        }
+        write!(f, ": {}", self.ground())
+    }
+}
+
+impl std::error::Error for Refused {}

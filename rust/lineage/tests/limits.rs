@@ -1,0 +1,47 @@
+//! The limits that the crate names are those of the library, to the last lot and place.
+
+use lineage::{check, Frame, Refused, Rule, Sheet, Tree, Verdict, CHECK_LOTS, MAX_LOTS, MAX_PLACE};
+
+/// A root with n - 1 children.
+fn star(n: u32) -> Result<Tree, Refused> {
+    Tree::new(vec![0; n as usize], (0..n).map(|v| v.saturating_sub(1)).collect())
+}
+
+fn number<T: std::fmt::Debug>(refused: Result<T, Refused>) -> u32 {
+    refused.unwrap_err().number
+}
+
+#[test]
+fn lots() {
+    let tree = star(MAX_LOTS).unwrap();
+    assert_eq!(Sheet::new(tree.clone(), Rule::Steep).unwrap().frame(), Frame { width: 1, height: MAX_LOTS - 1 });
+    assert_eq!(Tree::from_bytes(&tree.to_bytes()).unwrap(), tree);
+    assert_eq!(number(star(MAX_LOTS + 1)), 2);
+}
+
+#[test]
+fn lots_to_check() {
+    let sheet = |n| Sheet::new(star(n).unwrap(), Rule::Balanced).unwrap();
+    assert_eq!(sheet(CHECK_LOTS).check(), Ok(Verdict::Monotone));
+    assert_eq!(number(sheet(CHECK_LOTS + 1).check()), 14);
+}
+
+#[test]
+fn places() {
+    let pair = star(2).unwrap();
+    let mut sheet = Sheet::new(pair.clone(), Rule::Steep).unwrap();
+    assert_eq!(number(sheet.lengthen(1, MAX_PLACE)), 11);
+    assert_eq!(sheet.lengthen(1, MAX_PLACE - 1), Ok(Frame { width: MAX_PLACE, height: MAX_PLACE }));
+    assert_eq!(check(&pair, &[0, MAX_PLACE], &[0, 0]), Ok(Verdict::Monotone));
+    assert_eq!(number(check(&pair, &[0, MAX_PLACE + 1], &[0, 0])), 15);
+}
+
+/// A file that states more lots than there can be is refused, however long it is, and no list of that length is made.
+#[test]
+fn stated_lots() {
+    for n in [MAX_LOTS + 1, u32::MAX] {
+        assert_eq!(number(Tree::from_bytes(&n.to_le_bytes())), 2);
+    }
+    assert_eq!(number(Tree::from_bytes(&MAX_LOTS.to_le_bytes())), 17);
+    assert_eq!(number(Tree::from_bytes(&[1, 0, 0])), 16);
+}
