@@ -1,6 +1,6 @@
-//! Document 01 in plain Rust: written from the document and built otherwise than the proved code, so that the two can be
-//! held against each other. Trees are child lists walked by recursion, balanced slopes are fractions made level by level
-//! and sorted, a check tries candidate directions on the vectors of each path. All sums are 128 bits wide.
+//! Document 01 in plain Rust: written from the document and built otherwise than the proved code, so that the two can
+//! be held against each other. Trees are child lists walked by recursion, balanced slopes are fractions made level by
+//! level and sorted, a check tries candidate directions on the vectors of each path. All sums are 128 bits wide.
 
 use std::cmp::Ordering;
 use std::collections::{HashMap, HashSet};
@@ -246,13 +246,13 @@ fn open(
 ) -> Result<(Tree, Vec<Slope>), Refusal> {
     let tree = accept(parent, rank, &s.lengths(), work, 65_536, 2)?;
     let slopes = tree.slopes(balanced);
-    for v in 0..tree.lots() {
+    for (v, slope) in slopes.iter().enumerate() {
         let (time, (x, y)) = (s.times[v] as i128, s.place(v));
         let right = if v == 0 {
             (time, x, y) == (1, 0, 0)
         } else {
             let (px, py) = s.place(tree.parent[v]);
-            time >= 1 && x == px + time * slopes[v].0 && y == py + time * slopes[v].1
+            time >= 1 && x == px + time * slope.0 && y == py + time * slope.1
         };
         if !right || x > LIMIT || y > LIMIT {
             return Err((8, v as u32));
@@ -398,6 +398,11 @@ pub fn has_direction(vectors: &[(i128, i128)]) -> bool {
     vectors.is_empty()
         || vectors.iter().any(|&a| rises(vectors, a))
         || vectors.iter().any(|a| vectors.iter().any(|b| rises(vectors, turned(a, b))))
+}
+
+/// The n that a file states, or 0 where it is too short to state one.
+pub fn stated_nodes(bytes: &[u8]) -> u32 {
+    bytes.first_chunk().map_or(0, |four| u32::from_le_bytes(*four))
 }
 
 /// The reader: its reply; `parent` and `rank` are filled where the file's table is accepted.

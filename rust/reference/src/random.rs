@@ -19,7 +19,8 @@ impl Random {
         Random(seed)
     }
 
-    pub fn next(&mut self) -> u64 {
+    /// 64 random bits.
+    pub fn bits(&mut self) -> u64 {
         self.0 = self.0.wrapping_add(0x9e37_79b9_7f4a_7c15);
         let mut z = self.0;
         z = (z ^ (z >> 30)).wrapping_mul(0xbf58_476d_1ce4_e5b9);
@@ -29,7 +30,7 @@ impl Random {
 
     /// A number below n.
     pub fn below(&mut self, n: usize) -> usize {
-        (self.next() % n.max(1) as u64) as usize
+        (self.bits() % n.max(1) as u64) as usize
     }
 
     /// Once in n times.
@@ -47,8 +48,8 @@ impl Random {
         match self.below(8) {
             0..=3 => self.below(12) as u32,
             4 => self.one_of(&[0, 1, 65_535, 65_536, 0x7fff_fffe, 0x7fff_ffff, 0x8000_0000, u32::MAX]),
-            5 => self.next() as u32,
-            _ => (self.next() as u32) >> self.below(32),
+            5 => self.bits() as u32,
+            _ => (self.bits() as u32) >> self.below(32),
         }
     }
 
@@ -66,9 +67,9 @@ impl Random {
     /// An accepted table of n lots: a chain, a star, or any tree, with the lots renumbered at random.
     pub fn table(&mut self, n: usize) -> (Vec<u32>, Vec<u32>) {
         let shape = self.below(5);
-        let mut parent = vec![0usize; n];
-        for v in 1..n {
-            parent[v] = match shape {
+        let mut parent = vec![0; n];
+        for (v, p) in parent.iter_mut().enumerate().skip(1) {
+            *p = match shape {
                 0 => v - 1,
                 1 => 0,
                 2 => (v - 1) / 2,
@@ -176,8 +177,8 @@ impl Random {
         sheet
     }
 
-    /// A coordinate of a drawing of n lots: near together, so that lots coincide and edges are opposite or on one line, far
-    /// apart, or beyond the limit.
+    /// A coordinate of a drawing of n lots: near together, so that lots coincide and edges are opposite or on one line,
+    /// far apart, or beyond the limit.
     pub fn coordinate(&mut self, n: usize) -> Vec<u32> {
         let kind = self.below(8);
         let mut list: Vec<u32> = (0..n)
@@ -187,7 +188,7 @@ impl Random {
                 2 => self.below(20) as u32,
                 3 => 2 * v as u32,
                 4 => self.one_of(&[0, 1, 0x7fff_fffe, 0x7fff_ffff]),
-                5 => self.next() as u32 >> 1,
+                5 => self.bits() as u32 >> 1,
                 6 => 0x7fff_ffff - v as u32,
                 _ => 5,
             })

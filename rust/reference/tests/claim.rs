@@ -1,5 +1,5 @@
-//! Demand 3 by brute force on small trees: after lists of calls every path rises along its direction, no two edges share a
-//! point but a common end, places are the sums of the calls, and the check says Monotone.
+//! Demand 3 by brute force on small trees: after lists of calls every path rises along its direction, no two edges share
+//! a point but a common end, places are the sums of the calls, and the check says Monotone.
 
 use lineage::{Rule, Sheet, Tree, Verdict};
 use reference::random::Random;

@@ -10,13 +10,6 @@ fn calls() -> usize {
     std::env::var("LINEAGE_CALLS").map_or(200_000, |s| s.parse().expect("LINEAGE_CALLS"))
 }
 
-/// A work list, mostly of the right length.
-fn work(random: &mut Random, n: usize) -> Vec<u32> {
-    let length = if random.once_in(20) { random.below(5 * n + 2) } else { 4 * n };
-    let seed = random.next() as u32;
-    (0..length as u32).map(|i| i.wrapping_mul(2_654_435_761) ^ seed).collect()
-}
-
 /// A list with another length, now and then.
 fn lend(random: &mut Random, list: &mut Vec<u32>) {
     if random.once_in(40) {
@@ -34,31 +27,44 @@ fn lists(s: &mut Sheet) -> raw::Lists<'_> {
     raw::Lists { times: &mut s.times, x: &mut s.x, y: &mut s.y }
 }
 
-/// A reply list: three long but for a few calls.
-fn reply_list(random: &mut Random) -> Vec<i64> {
-    let length = if random.once_in(100) { random.below(6) } else { 3 };
-    (0..length).map(|_| random.next() as i64).collect()
+/// What every call is lent besides its lists, a work list and a reply, and what they held before.
+struct Lent {
+    work: Vec<u32>,
+    work_before: Vec<u32>,
+    reply: Vec<i64>,
+    reply_before: Vec<i64>,
 }
 
-/// Compares the reply and the work list, or sees that nothing was done where the reply is not three long.
-fn same(
-    said: &str,
-    called: bool,
-    before: &[i64],
-    reply: &[i64],
-    right: Reply,
-    work_before: &[u32],
-    work: &[u32],
-    keeps: &dyn Fn(i64) -> bool,
-) {
-    if before.len() != 3 {
-        assert!(!called && before == reply && work_before == work, "{said}: a reply of another length");
-        return;
+impl Lent {
+    /// Both of the right lengths, but for a few calls.
+    fn new(random: &mut Random, n: usize) -> Lent {
+        let length = if random.once_in(20) { random.below(5 * n + 2) } else { 4 * n };
+        let seed = random.bits() as u32;
+        let work: Vec<u32> = (0..length as u32).map(|i| i.wrapping_mul(2_654_435_761) ^ seed).collect();
+        let length = if random.once_in(100) { random.below(6) } else { 3 };
+        let reply: Vec<i64> = (0..length).map(|_| random.bits() as i64).collect();
+        Lent { work_before: work.clone(), work, reply_before: reply.clone(), reply }
     }
-    assert!(called, "{said}: refused a reply of three");
-    assert_eq!(reply, right, "{said}");
-    if right[0] == 0 && keeps(right[1]) {
-        assert_eq!(work_before, work, "{said}: the work list changed");
+
+    /// What the plain version answers, where the reply is three long and so the call is made.
+    fn right(&self, plain: impl FnOnce(usize) -> Reply) -> Reply {
+        if self.reply.len() == 3 {
+            plain(self.work.len())
+        } else {
+            [0; 3]
+        }
+    }
+
+    /// Compares the reply and the work list, or sees that nothing was done where the reply is not three long.
+    fn compare(&self, said: &str, called: bool, right: Reply, spares: fn(i64) -> bool) {
+        let same_work = self.work == self.work_before;
+        if self.reply.len() != 3 {
+            assert!(!called && self.reply == self.reply_before && same_work, "{said}: a reply of another length");
+            return;
+        }
+        assert!(called, "{said}: refused a reply of three");
+        assert_eq!(self.reply, right, "{said}");
+        assert!(right[0] != 0 || !spares(right[1]) || same_work, "{said}: the work list changed");
     }
 }
 
@@ -98,17 +104,11 @@ fn layout() {
         let mut mine = Sheet { times: random.list(n), x: random.list(n), y: random.list(n) };
         lend_sheet(&mut random, &mut mine);
         lend(&mut random, &mut rank);
-        let (mut theirs, before) = (mine.clone(), work(&mut random, n));
-        let (mut after, replied) = (before.clone(), reply_list(&mut random));
-        let mut reply = replied.clone();
-        let called = raw::layout(balanced, &parent, &rank, lists(&mut theirs), &mut after, &mut reply);
-        let right = if replied.len() == 3 {
-            reference::layout(balanced, &parent, &rank, &mut mine, before.len())
-        } else {
-            [0; 3]
-        };
+        let (mut theirs, mut lent) = (mine.clone(), Lent::new(&mut random, n));
+        let called = raw::layout(balanced, &parent, &rank, lists(&mut theirs), &mut lent.work, &mut lent.reply);
+        let right = lent.right(|work| reference::layout(balanced, &parent, &rank, &mut mine, work));
         let said = format!("call {i}: layout({balanced}, {parent:?}, {rank:?})");
-        same(&said, called, &replied, &reply, right, &before, &after, &spares_work);
+        lent.compare(&said, called, right, spares_work);
         assert_eq!(mine, theirs, "{said}");
         tally.note(right);
     }
@@ -128,18 +128,17 @@ fn stretch(
     lot: u32,
     count: u32,
 ) -> Reply {
-    let before = work(random, parent.len());
-    let (mut theirs, mut after, replied) = (s.clone(), before.clone(), reply_list(random));
-    let mut reply = replied.clone();
+    let (mut theirs, mut lent) = (s.clone(), Lent::new(random, parent.len()));
     let (mine, call): (_, fn(_, &_, &_, raw::Lists, &mut _, _, _, &mut _) -> _) = if longer {
         (reference::lengthen as fn(_, &_, &_, &mut _, _, _, _) -> _, raw::lengthen)
     } else {
         (reference::shorten as fn(_, &_, &_, &mut _, _, _, _) -> _, raw::shorten)
     };
     let said = format!("longer {longer}, balanced {balanced}, {parent:?}, {rank:?}, {s:?}, {lot}, {count}");
-    let called = call(balanced, parent, rank, lists(&mut theirs), &mut after[..], lot, count, &mut reply[..]);
-    let right = if replied.len() == 3 { mine(balanced, parent, rank, s, before.len(), lot, count) } else { [0; 3] };
-    same(&said, called, &replied, &reply, right, &before, &after, &spares_work);
+    let (after, reply) = (&mut lent.work[..], &mut lent.reply[..]);
+    let called = call(balanced, parent, rank, lists(&mut theirs), after, lot, count, reply);
+    let right = lent.right(|work| mine(balanced, parent, rank, s, work, lot, count));
+    lent.compare(&said, called, right, spares_work);
     assert_eq!(*s, theirs, "{said}");
     right
 }
@@ -238,12 +237,11 @@ fn direction() {
         let n = parent.len();
         let balanced = random.once_in(2);
         let (from, to) = (lot_of(&mut random, n), lot_of(&mut random, n));
-        let (before, replied) = (work(&mut random, n), reply_list(&mut random));
-        let (mut after, mut reply) = (before.clone(), replied.clone());
-        let called = raw::direction(balanced, &parent, &rank, &mut after, from, to, &mut reply);
-        let right = reference::direction(balanced, &parent, &rank, before.len(), from, to);
+        let mut lent = Lent::new(&mut random, n);
+        let called = raw::direction(balanced, &parent, &rank, &mut lent.work, from, to, &mut lent.reply);
+        let right = lent.right(|work| reference::direction(balanced, &parent, &rank, work, from, to));
         let said = format!("call {i}: direction({balanced}, {parent:?}, {rank:?}, {from}, {to})");
-        same(&said, called, &replied, &reply, right, &before, &after, &spares_work);
+        lent.compare(&said, called, right, spares_work);
         tally.note(right);
     }
     tally.print("direction");
@@ -266,16 +264,33 @@ fn check() {
         lend(&mut random, &mut rank);
         lend(&mut random, &mut x);
         lend(&mut random, &mut y);
-        let (before, replied) = (work(&mut random, n), reply_list(&mut random));
-        let (mut after, mut reply) = (before.clone(), replied.clone());
-        let called = raw::check(&parent, &rank, &x, &y, &mut after, &mut reply);
-        let right = reference::check(&parent, &rank, &x, &y, before.len());
+        let mut lent = Lent::new(&mut random, n);
+        let called = raw::check(&parent, &rank, &x, &y, &mut lent.work, &mut lent.reply);
+        let right = lent.right(|work| reference::check(&parent, &rank, &x, &y, work));
         let said = format!("call {i}: check({parent:?}, {rank:?}, {x:?}, {y:?})");
-        same(&said, called, &replied, &reply, right, &before, &after, &spares_work);
+        lent.compare(&said, called, right, spares_work);
         tally.note(right);
     }
     tally.print("check");
     tally.has_all(&[1, 3, 4, 5, 6, 7, 15]);
+}
+
+/// The file of a table, with another number of lots, other bytes or another length now and then.
+fn any_file(random: &mut Random, parent: &[u32], rank: &[u32]) -> Vec<u8> {
+    let stated = if random.once_in(20) { random.number() } else { parent.len() as u32 };
+    let numbers = [&[stated][..], parent, rank].concat();
+    let mut bytes: Vec<u8> = numbers.iter().flat_map(|w| w.to_le_bytes()).collect();
+    match random.below(20) {
+        0 => bytes.push(random.bits() as u8),
+        1 => bytes.truncate(random.below(bytes.len())),
+        2 => bytes.truncate(random.below(5)),
+        3 => {
+            let at = random.below(bytes.len());
+            bytes[at] = random.bits() as u8;
+        }
+        _ => {}
+    }
+    bytes
 }
 
 #[test]
@@ -285,36 +300,16 @@ fn read_tree() {
     for i in 0..calls() {
         let (parent, rank) = random.any_table(100);
         let n = parent.len();
-        let mut stated = n as u32;
-        if random.once_in(20) {
-            stated = random.number();
-        }
-        let numbers = [&[stated][..], &parent, &rank].concat();
-        let mut bytes: Vec<u8> = numbers.iter().flat_map(|w| w.to_le_bytes()).collect();
-        match random.below(20) {
-            0 => bytes.push(random.next() as u8),
-            1 => bytes.truncate(random.below(bytes.len())),
-            2 => bytes.truncate(random.below(5)),
-            3 => {
-                let at = random.below(bytes.len());
-                bytes[at] = random.next() as u8;
-            }
-            _ => {}
-        }
+        let bytes = any_file(&mut random, &parent, &rank);
+        assert_eq!(raw::stated_nodes(&bytes), reference::stated_nodes(&bytes), "call {i}: stated_nodes({bytes:?})");
         let (mut mine_p, mut mine_r) = (random.list(n), random.list(n));
         lend(&mut random, &mut mine_p);
         lend(&mut random, &mut mine_r);
-        let (mut p, mut r) = (mine_p.clone(), mine_r.clone());
-        let (before, replied) = (work(&mut random, n), reply_list(&mut random));
-        let (mut after, mut reply) = (before.clone(), replied.clone());
-        let called = raw::read_tree(&bytes, &mut p, &mut r, &mut after, &mut reply);
-        let right = if replied.len() == 3 {
-            reference::read_tree(&bytes, &mut mine_p, &mut mine_r, before.len())
-        } else {
-            [0; 3]
-        };
+        let (mut p, mut r, mut lent) = (mine_p.clone(), mine_r.clone(), Lent::new(&mut random, n));
+        let called = raw::read_tree(&bytes, &mut p, &mut r, &mut lent.work, &mut lent.reply);
+        let right = lent.right(|work| reference::read_tree(&bytes, &mut mine_p, &mut mine_r, work));
         let said = format!("call {i}: read_tree({bytes:?})");
-        same(&said, called, &replied, &reply, right, &before, &after, &spares_work);
+        lent.compare(&said, called, right, spares_work);
         assert_eq!((mine_p, mine_r), (p, r), "{said}");
         tally.note(right);
     }
@@ -331,15 +326,12 @@ fn write_tree() {
         lend(&mut random, &mut rank);
         let n = parent.len();
         let length = if random.once_in(20) { random.below(8 * n + 20) } else { 4 + 8 * n };
-        let mut mine: Vec<u8> = (0..length).map(|_| random.next() as u8).collect();
-        let mut theirs = mine.clone();
-        let (before, replied) = (work(&mut random, n), reply_list(&mut random));
-        let (mut after, mut reply) = (before.clone(), replied.clone());
-        let called = raw::write_tree(&parent, &rank, &mut theirs, &mut after, &mut reply);
-        let right =
-            if replied.len() == 3 { reference::write_tree(&parent, &rank, &mut mine, before.len()) } else { [0; 3] };
+        let mut mine: Vec<u8> = (0..length).map(|_| random.bits() as u8).collect();
+        let (mut theirs, mut lent) = (mine.clone(), Lent::new(&mut random, n));
+        let called = raw::write_tree(&parent, &rank, &mut theirs, &mut lent.work, &mut lent.reply);
+        let right = lent.right(|work| reference::write_tree(&parent, &rank, &mut mine, work));
         let said = format!("call {i}: write_tree({parent:?}, {rank:?})");
-        same(&said, called, &replied, &reply, right, &before, &after, &|k| k <= 3);
+        lent.compare(&said, called, right, |number| number <= 3);
         assert_eq!(mine, theirs, "{said}");
         tally.note(right);
     }
@@ -347,48 +339,54 @@ fn write_tree() {
     tally.has_all(&[1, 3, 4, 5, 6, 7, 17]);
 }
 
-/// 65,536 and 65,537 lots, and 4,096 and 4,097 for the check, of each shape. The plain version walks by recursion, so it has
-/// a stack of its own.
+/// A chain, a star or a binary tree of n lots.
+fn shaped(shape: &str, n: usize) -> (Vec<u32>, Vec<u32>) {
+    let lot = |v: usize| match shape {
+        "chain" => (v, 0),
+        "star" => (0, v),
+        _ => (v / 2, v % 2),
+    };
+    let other = (0..n - 1).map(|v| (lot(v).0 as u32, lot(v).1 as u32));
+    std::iter::once((0, 0)).chain(other).unzip()
+}
+
+/// Layout of n lots under both rules, and the direction between two lots that are far apart.
+fn limits_of_lots(shape: &str, n: usize) {
+    let (parent, rank) = shaped(shape, n);
+    for balanced in [false, true] {
+        let mut mine = Sheet { times: vec![9; n], x: vec![9; n], y: vec![9; n] };
+        let mut theirs = mine.clone();
+        let (mut w, mut reply) = (vec![3; 4 * n], [0; 3]);
+        raw::layout(balanced, &parent, &rank, lists(&mut theirs), &mut w, &mut reply);
+        let right = reference::layout(balanced, &parent, &rank, &mut mine, 4 * n);
+        assert_eq!(reply, right, "{shape} {n} {balanced}");
+        assert!(mine == theirs, "{shape} {n} {balanced}");
+        assert_eq!(right[0], (n <= 65_536) as i64);
+        let far = (n / 2) as u32;
+        raw::direction(balanced, &parent, &rank, &mut w, 1, far, &mut reply);
+        if shape != "chain" {
+            let right = reference::direction(balanced, &parent, &rank, 4 * n, 1, far);
+            assert_eq!(reply, right, "{shape} {n} {balanced}");
+        }
+    }
+}
+
+/// 65,536 and 65,537 lots, of each shape. The plain version walks by recursion, so it has a stack of its own.
 #[test]
-fn counts_at_the_limits() {
+fn lots_at_the_limits() {
     let large = std::thread::Builder::new().stack_size(1 << 30).spawn(|| {
-        for (shape, n) in [("chain", 65_536usize), ("star", 65_536), ("binary", 65_536), ("chain", 65_537)] {
-            let parent: Vec<u32> = (0..n)
-                .map(|v: usize| match shape {
-                    "chain" => v.saturating_sub(1) as u32,
-                    "star" => 0,
-                    _ => (v.saturating_sub(1) / 2) as u32,
-                })
-                .collect();
-            let rank: Vec<u32> = (0..n)
-                .map(|v| match shape {
-                    "chain" => 0,
-                    "star" => v.saturating_sub(1) as u32,
-                    _ => (v.saturating_sub(1) % 2) as u32,
-                })
-                .collect();
-            for balanced in [false, true] {
-                let mut mine = Sheet { times: vec![9; n], x: vec![9; n], y: vec![9; n] };
-                let mut theirs = mine.clone();
-                let (mut w, mut reply) = (vec![3; 4 * n], [0; 3]);
-                raw::layout(balanced, &parent, &rank, lists(&mut theirs), &mut w, &mut reply);
-                let right = reference::layout(balanced, &parent, &rank, &mut mine, 4 * n);
-                assert_eq!(reply, right, "{shape} {n} {balanced}");
-                assert!(mine == theirs, "{shape} {n} {balanced}");
-                assert_eq!(right[0], (n <= 65_536) as i64);
-                let far = (n / 2) as u32;
-                raw::direction(balanced, &parent, &rank, &mut w, 1, far, &mut reply);
-                if shape != "chain" {
-                    let right = reference::direction(balanced, &parent, &rank, 4 * n, 1, far);
-                    assert_eq!(reply, right, "{shape} {n} {balanced}");
-                }
-            }
+        for (shape, n) in [("chain", 65_536), ("star", 65_536), ("binary", 65_536), ("chain", 65_537)] {
+            limits_of_lots(shape, n);
         }
     });
     large.unwrap().join().unwrap();
-    for (n, right) in [(4096usize, [1, 0, 0]), (4097, [0, 14, 0])] {
-        let parent = vec![0; n];
-        let rank: Vec<u32> = (0..n).map(|v| v.saturating_sub(1) as u32).collect();
+}
+
+/// 4,096 and 4,097 lots.
+#[test]
+fn check_at_the_limits() {
+    for (n, right) in [(4096, [1, 0, 0]), (4097, [0, 14, 0])] {
+        let (parent, rank) = shaped("star", n);
         let (x, y): (Vec<u32>, Vec<u32>) = (0..n as u32).map(|v| (v, v * v)).unzip();
         let (mut w, mut reply) = (vec![5; 4 * n], [0; 3]);
         raw::check(&parent, &rank, &x, &y, &mut w, &mut reply);
