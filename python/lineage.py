@@ -1,0 +1,394 @@
+"""Lineage sheets on the grid: drawings of a tree in which, for any two lots, some direction makes every edge of the
+path between them rise. All the work is done by the proved library; this module lends it lists and names its answers.
+
+>>> tree = Tree([0, 0, 0, 1, 1], [0, 0, 1, 0, 1])
+>>> sheet = Sheet(tree, "steep")
+>>> sheet.frame
+Frame(width=2, height=5)
+>>> sheet.lengthen(1, 2)
+Frame(width=4, height=11)
+>>> sheet.x, sheet.y
+([0, 3, 1, 4, 4], [0, 9, 4, 10, 11])
+>>> sheet.direction(3, 2)
+Direction(d=-7, e=2)
+>>> bool(sheet.check())
+True
+>>> sheet.shorten(1, 3)
+Traceback (most recent call last):
+lineage.Refused: shorten refused (12) at lot 1: the count is not below the lot's times
+
+Numbers are whole and from 0 to 4,294,967,295: anything else raises ValueError or OverflowError, and no call is made.
+
+The library is the file that the environment variable LINEAGE_LIBRARY names, or else liblineage.so beside this file, or
+else the one that the system finds; `tools/package` writes a folder that has both.
+"""
+
+from __future__ import annotations
+
+import ctypes
+import ctypes.util
+import os
+from array import array
+from ctypes import c_bool, c_int64, c_size_t, c_uint8, c_uint32
+from pathlib import Path
+from typing import Any, Iterable, NamedTuple, Optional, Union
+
+__all__ = ["CHECK_LOTS", "MAX_LOTS", "MAX_PLACE", "GROUNDS", "Direction", "Frame", "Ground", "Refused", "Sheet", "Tree",
+           "Verdict", "check", "direction"]
+
+MAX_LOTS = 65_536  #: the most lots of a tree
+CHECK_LOTS = 4_096  #: the most lots of a drawing that the check takes
+MAX_PLACE = 2_147_483_647  #: the largest x and y on a sheet
+
+# ----------------------------------------------------------------------------------------------------------------------
+# Refusals
+
+
+class Ground(NamedTuple):
+    """A ground on which calls refuse."""
+
+    number: int
+    name: str
+    names_lot: bool
+    words: str
+    remedy: str
+
+
+def _grounds() -> dict[int, Ground]:
+    """The grounds of refusals.txt, three lines each."""
+    text = Path(__file__).with_name("refusals.txt").read_text(encoding="utf-8")
+    lines = [line.strip() for line in text.splitlines() if not line.startswith("#")]
+    found = {}
+    for head, words, remedy in zip(lines[0::3], lines[1::3], lines[2::3]):
+        number, name, *lot = head.split()
+        found[int(number)] = Ground(int(number), name, lot == ["lot"], words, remedy)
+    return found
+
+
+GROUNDS = _grounds()  #: the grounds, by number
+
+
+class Refused(Exception):
+    """A refusal: the call, the number of the ground, and the lot (0 where the ground names none)."""
+
+    def __init__(self, call: str, number: int, lot: int) -> None:
+        self.call, self.number, self.lot = call, number, lot
+        self.ground = GROUNDS[number].words
+        self.remedy = GROUNDS[number].remedy
+        at = f" at lot {lot}" if GROUNDS[number].names_lot else ""
+        super().__init__(f"{call} refused ({number}){at}: {self.ground}")
+
+    def __reduce__(self) -> tuple[Any, ...]:
+        return Refused, (self.call, self.number, self.lot)
+
+
+# ----------------------------------------------------------------------------------------------------------------------
+# The library
+
+
+def _lists(count: int) -> list[Any]:
+    """The types of as many lists of 32-bit numbers: each an address and a length."""
+    return [ctypes.POINTER(c_uint32), c_size_t] * count
+
+
+_BYTES: list[Any] = [ctypes.POINTER(c_uint8), c_size_t]
+
+# What each call of lineage.h takes before its reply.
+_TAKES = {
+    "layout": [c_bool, *_lists(6)],
+    "lengthen": [c_bool, *_lists(6), c_uint32, c_uint32],
+    "shorten": [c_bool, *_lists(6), c_uint32, c_uint32],
+    "direction": [c_bool, *_lists(3), c_uint32, c_uint32],
+    "check": _lists(5),
+    "read_tree": [*_BYTES, *_lists(3)],
+    "write_tree": [*_lists(2), *_BYTES, *_lists(1)],
+}
+
+
+def _path() -> str:
+    """Where the library is."""
+    beside = Path(__file__).with_name("liblineage.so")
+    here = str(beside) if beside.exists() else None
+    path = os.environ.get("LINEAGE_LIBRARY") or here or ctypes.util.find_library("lineage")
+    if path is None:
+        raise ImportError("liblineage.so is not found; LINEAGE_LIBRARY may name it")
+    return path
+
+
+def _load() -> ctypes.CDLL:
+    """The library, with the types of its calls."""
+    library = ctypes.CDLL(_path())
+    for name, takes in _TAKES.items():
+        call = getattr(library, f"lineage_{name}")
+        call.argtypes = [*takes, ctypes.POINTER(c_int64), c_size_t]
+        call.restype = c_bool
+    library.lineage_stated_nodes.argtypes = _BYTES
+    library.lineage_stated_nodes.restype = c_uint32
+    return library
+
+
+_LIBRARY = _load()
+
+_List = ctypes.Array[c_uint32]
+_Lent = Union[bool, int, ctypes.Array[Any]]
+
+
+def _lend(arguments: Iterable[_Lent]) -> Iterable[Any]:
+    """The arguments as C takes them: a list is its address and its length."""
+    for argument in arguments:
+        yield argument
+        if isinstance(argument, ctypes.Array):
+            yield len(argument)
+
+
+def _ask(call: str, *arguments: _Lent) -> tuple[int, int, int]:
+    """Makes a call: the three numbers of its reply, or Refused."""
+    reply = (c_int64 * 3)()
+    getattr(_LIBRARY, f"lineage_{call}")(*_lend((*arguments, reply)))
+    case, a, b = reply
+    if case == 0:
+        raise Refused(call, a, b)
+    return case, a, b
+
+
+def _numbers(values: Iterable[int]) -> _List:
+    """A list to lend, of whole numbers that fit 32 bits."""
+    try:
+        numbers = array("I", list(values))
+    except TypeError as error:
+        raise ValueError(f"not whole numbers: {error}") from None
+    return (c_uint32 * len(numbers))(*numbers)
+
+
+def _number(value: int) -> int:
+    """A whole number that fits 32 bits."""
+    return int(_numbers([value])[0])
+
+
+def _zeros(count: int) -> _List:
+    return (c_uint32 * count)()
+
+
+def _bytes(values: bytes) -> ctypes.Array[c_uint8]:
+    try:
+        return (c_uint8 * len(values)).from_buffer_copy(values)
+    except TypeError as error:
+        raise ValueError(f"not bytes: {error}") from None
+
+
+def _balanced(rule: str) -> bool:
+    if rule not in ("steep", "balanced"):
+        raise ValueError(f"{rule!r} is not a rule: 'steep' or 'balanced'")
+    return rule == "balanced"
+
+
+# ----------------------------------------------------------------------------------------------------------------------
+# Trees
+
+
+class Tree:
+    """An accepted tree table: each lot's parent, and its place among its parent's children. Lot 0 is the root.
+
+    >>> tree = Tree([0, 0], [0, 0])
+    >>> Tree.from_bytes(tree.to_bytes()) == tree
+    True
+    >>> Tree([0, 2, 1], [0, 0, 0])
+    Traceback (most recent call last):
+    lineage.Refused: write_tree refused (7) at lot 1: the lot's parents never lead to lot 0
+    """
+
+    def __init__(self, parents: Iterable[int], ranks: Iterable[int]) -> None:
+        """The table of these lists, if none of refusals 1 to 7 applies: the writer of its tree file is asked."""
+        self._parents, self._ranks = _numbers(parents), _numbers(ranks)
+        self.to_bytes()
+
+    @classmethod
+    def from_bytes(cls, data: bytes) -> Tree:
+        """The table of a tree file's bytes."""
+        given = _bytes(data)
+        # where more are stated the reader refuses, whatever it is lent
+        n = min(_LIBRARY.lineage_stated_nodes(given, len(given)), MAX_LOTS)
+        tree = cls.__new__(cls)
+        tree._parents, tree._ranks = _zeros(n), _zeros(n)
+        _ask("read_tree", given, tree._parents, tree._ranks, _zeros(4 * n))
+        return tree
+
+    def to_bytes(self) -> bytes:
+        """The bytes of its tree file."""
+        n = min(len(self), MAX_LOTS)  # where there are more the writer refuses, whatever it is lent
+        data = (c_uint8 * (4 + 8 * n))()
+        _ask("write_tree", self._parents, self._ranks, data, _zeros(4 * n))
+        return bytes(data)
+
+    @classmethod
+    def read(cls, path: Union[str, os.PathLike[str]]) -> Tree:
+        """The table of a tree file."""
+        return cls.from_bytes(Path(path).read_bytes())
+
+    def write(self, path: Union[str, os.PathLike[str]]) -> None:
+        """Writes its tree file."""
+        Path(path).write_bytes(self.to_bytes())
+
+    @property
+    def parents(self) -> list[int]:
+        """Each lot's parent."""
+        return list(self._parents)
+
+    @property
+    def ranks(self) -> list[int]:
+        """Each lot's place among its parent's children, from 0."""
+        return list(self._ranks)
+
+    def __len__(self) -> int:
+        """The number of lots."""
+        return len(self._parents)
+
+    def __eq__(self, other: object) -> bool:
+        return isinstance(other, Tree) and (self.parents, self.ranks) == (other.parents, other.ranks)
+
+    def __hash__(self) -> int:
+        return hash(self.to_bytes())
+
+    def __repr__(self) -> str:
+        return f"Tree({self.parents}, {self.ranks})"
+
+
+# ----------------------------------------------------------------------------------------------------------------------
+# Drawings
+
+
+class Frame(NamedTuple):
+    """The largest x and the largest y of a sheet."""
+
+    width: int
+    height: int
+
+
+class Direction(NamedTuple):
+    """An edge (across, up) rises along it when d * across + e * up is above 0."""
+
+    d: int
+    e: int
+
+
+class Verdict(NamedTuple):
+    """What the check says of a drawing, which is true where it is monotone: every pair of lots has a direction."""
+
+    turns: Optional[tuple[int, int]]
+    """The first pair that has no direction, or None."""
+
+    def __bool__(self) -> bool:
+        return self.turns is None
+
+
+def check(tree: Tree, x: Iterable[int], y: Iterable[int]) -> Verdict:
+    """Whether a drawing of the tree, whoever drew it, is monotone.
+
+    >>> chain = Tree([0, 0, 1, 2], [0, 0, 0, 0])
+    >>> check(chain, [0, 1, 1, 0], [0, 0, 1, 1])
+    Verdict(turns=(0, 3))
+    """
+    case, u, v = _ask("check", tree._parents, tree._ranks, _numbers(x), _numbers(y), _zeros(4 * len(tree)))
+    return Verdict(None if case == 1 else (u, v))
+
+
+def direction(tree: Tree, rule: str, start: int, end: int) -> Direction:
+    """A direction along which every edge of the path from one lot to another rises, on every sheet under the rule."""
+    lists = tree._parents, tree._ranks, _zeros(4 * len(tree))
+    _, d, e = _ask("direction", _balanced(rule), *lists, _number(start), _number(end))
+    return Direction(d, e)
+
+
+class Sheet:
+    """A tree drawn under a rule, 'steep' or 'balanced'. Two sheets are equal where tree, rule, times and places are."""
+
+    def __init__(self, tree: Tree, rule: str) -> None:
+        """The fresh sheet, with every times 1."""
+        self._open(tree, rule, *(_zeros(len(tree)) for _ in range(3)))
+        self._ask("layout")
+
+    @classmethod
+    def from_lists(cls, tree: Tree, rule: str, times: Iterable[int], x: Iterable[int], y: Iterable[int]) -> Sheet:
+        """The sheet that these lists are, as one that was saved; refused with 8 where they are none."""
+        sheet = cls.__new__(cls)
+        sheet._open(tree, rule, _numbers(times), _numbers(x), _numbers(y))
+        try:
+            sheet.lengthen(1, 0)
+        except Refused as refused:
+            if refused.number != 9:  # one lot has no edge; 9 comes after 3 and 8, so its lists are a sheet
+                raise
+        return sheet
+
+    def _open(self, tree: Tree, rule: str, times: _List, x: _List, y: _List) -> None:
+        self._balanced = _balanced(rule)
+        self._tree, self._times, self._x, self._y = tree, times, x, y
+        self._work = _zeros(4 * len(tree))
+        self._frame = Frame(0, 0)
+
+    def _ask(self, call: str, *numbers: int) -> Frame:
+        lists = self._tree._parents, self._tree._ranks, self._times, self._x, self._y, self._work
+        _, width, height = _ask(call, self._balanced, *lists, *map(_number, numbers))
+        self._frame = Frame(width, height)
+        return self._frame
+
+    def lengthen(self, lot: int, count: int) -> Frame:
+        """Makes the edge of a lot longer by count times its slope; its whole subtree moves along."""
+        return self._ask("lengthen", lot, count)
+
+    def shorten(self, lot: int, count: int) -> Frame:
+        """Makes it shorter again, to at least one times its slope."""
+        return self._ask("shorten", lot, count)
+
+    def direction(self, start: int, end: int) -> Direction:
+        """A direction along which the path from one lot to another rises."""
+        return direction(self._tree, self.rule, start, end)
+
+    def check(self) -> Verdict:
+        """What the check says of the sheet: never that it turns, which is proved."""
+        return check(self._tree, self._x, self._y)
+
+    @property
+    def tree(self) -> Tree:
+        """The tree that is drawn."""
+        return self._tree
+
+    @property
+    def rule(self) -> str:
+        """The rule that it is drawn under."""
+        return "balanced" if self._balanced else "steep"
+
+    @property
+    def frame(self) -> Frame:
+        """The largest x and the largest y."""
+        return self._frame
+
+    @property
+    def times(self) -> list[int]:
+        """How many times its slope each lot's edge is long."""
+        return list(self._times)
+
+    @property
+    def x(self) -> list[int]:
+        """Each lot's x."""
+        return list(self._x)
+
+    @property
+    def y(self) -> list[int]:
+        """Each lot's y."""
+        return list(self._y)
+
+    def place(self, lot: int) -> tuple[int, int]:
+        """The place of a lot; IndexError where there is no such lot."""
+        at = _number(lot)
+        return self._x[at], self._y[at]
+
+    def __eq__(self, other: object) -> bool:
+        return isinstance(other, Sheet) and self._drawn() == other._drawn()
+
+    __hash__ = None  # type: ignore[assignment]  # a sheet changes
+
+    def _drawn(self) -> tuple[Any, ...]:
+        return self._tree, self._balanced, self.times, self.x, self.y
+
+    def __repr__(self) -> str:
+        return f"Sheet.from_lists({self._tree}, {self.rule!r}, {self.times}, {self.x}, {self.y})"

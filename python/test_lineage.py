@@ -1,0 +1,260 @@
+"""The module beside plain Python (tests/cases.py): python3 -m unittest test_lineage, with the library where lineage.py
+looks for it. LINEAGE_SEED sets the seed, which is printed."""
+
+import doctest
+import os
+import pickle
+import random
+import re
+import shutil
+import struct
+import subprocess
+import sys
+import tempfile
+import time
+import unittest
+from pathlib import Path
+
+ROOT = Path(__file__).resolve().parents[1]
+sys.path.insert(0, str(ROOT / "tests"))
+
+import cases  # noqa: E402
+import lineage  # noqa: E402
+from lineage import Refused, Sheet, Tree  # noqa: E402
+
+SEED = int(os.environ.get("LINEAGE_SEED") or time.time_ns())
+FIVE = [0, 0, 0, 1, 1], [0, 0, 1, 0, 1]
+RULES = "steep", "balanced"
+
+
+def load_tests(loader, tests, pattern):
+    tests.addTests(doctest.DocTestSuite(lineage))
+    return tests
+
+
+def random_tree(draw):
+    """The lists of a tree whose lots are numbered and ranked at random."""
+    n = draw.choice([1, 2, 3, 5, 8, 30, 200])
+    name = [0] + draw.sample(range(1, n), n - 1)
+    parents, children = [0] * n, [[] for _ in range(n)]
+    for v in range(1, n):
+        p = name[draw.choice([v - 1, 0, draw.randrange(v)])]
+        parents[name[v]] = p
+        children[p].append(name[v])
+    ranks = [0] * n
+    for kids in children:
+        draw.shuffle(kids)
+        for rank, v in enumerate(kids):
+            ranks[v] = rank
+    return parents, ranks
+
+
+class BesidePython(unittest.TestCase):
+    def setUp(self):
+        print(f"{self.id()}: LINEAGE_SEED={SEED}")
+        self.draw = random.Random(SEED)
+
+    def same(self, sheet, plain):
+        self.assertEqual((sheet.times, sheet.x, sheet.y), (plain.times, plain.x, plain.y))
+        self.assertEqual((1, *sheet.frame), plain.frame())
+
+    def move(self, sheet, longer, lot, count):
+        """The reply of C that a call's outcome stands for."""
+        try:
+            return (1, *(sheet.lengthen if longer else sheet.shorten)(lot, count))
+        except Refused as refused:
+            return (0, refused.number, refused.lot)
+
+    def test_sheets(self):
+        for _ in range(300):
+            lists = random_tree(self.draw)
+            rule = self.draw.randrange(2)
+            sheet, plain = Sheet(Tree(*lists), RULES[rule]), cases.Sheet(cases.Tree(*lists), rule)
+            self.same(sheet, plain)
+            for _ in range(10):
+                longer, lot = self.draw.randrange(2), self.draw.randrange(len(lists[0]) + 1)
+                count = self.draw.choice([0, 1, 2, 5, 1000, 2**31, 2**32 - 1])
+                self.assertEqual(self.move(sheet, longer, lot, count), plain.move(longer, lot, count))
+                self.same(sheet, plain)
+            self.assertTrue(sheet.check())
+            self.assertEqual(Sheet.from_lists(sheet.tree, sheet.rule, sheet.times, sheet.x, sheet.y), sheet)
+
+    def test_checks(self):
+        seen = set()
+        for _ in range(1000):
+            lists = random_tree(self.draw)
+            x, y = ([self.draw.randrange(6) for _ in lists[0]] for _ in "xy")
+            verdict = lineage.check(Tree(*lists), x, y)
+            plain = cases.check(cases.Tree(*lists), x, y)
+            self.assertEqual(verdict, lineage.Verdict(None if plain[0] == 2 else plain[1:]))
+            seen.add(bool(verdict))
+        self.assertEqual(seen, {True, False})
+
+    def test_directions_rise(self):
+        for _ in range(300):
+            sheet = Sheet(Tree(*random_tree(self.draw)), self.draw.choice(RULES))
+            n, parents = len(sheet.tree), sheet.tree.parents
+            if n == 1:
+                continue
+            u, v = self.draw.sample(range(n), 2)
+            way = self.path(parents, u, v)
+            d, e = sheet.direction(u, v)
+            for a, b in zip(way, way[1:]):
+                self.assertGreater(d * (sheet.x[b] - sheet.x[a]) + e * (sheet.y[b] - sheet.y[a]), 0)
+
+    def path(self, parents, u, v):
+        up, down = [u], [v]
+        for way in up, down:
+            while way[-1] != 0:
+                way.append(parents[way[-1]])
+        meeting = next(z for z in up if z in down)
+        return up[: up.index(meeting) + 1] + down[: down.index(meeting)][::-1]
+
+    def test_tree_files(self):
+        with tempfile.TemporaryDirectory() as folder:
+            path = Path(folder) / "a.tree"
+            for _ in range(100):
+                parents, ranks = random_tree(self.draw)
+                tree, n = Tree(parents, ranks), len(parents)
+                tree.write(path)
+                self.assertEqual(path.read_bytes(), struct.pack(f"<{1 + 2 * n}I", n, *parents, *ranks))
+                again = Tree.read(path)
+                self.assertEqual((again, hash(again), again.parents, again.ranks), (tree, hash(tree), parents, ranks))
+
+
+class Refusals(unittest.TestCase):
+    def refused(self, number, lot, call, *arguments):
+        with self.assertRaises(Refused) as caught:
+            call(*arguments)
+        refused = caught.exception
+        self.assertEqual((refused.number, refused.lot), (number, lot))
+        self.assertEqual(refused.ground, lineage.GROUNDS[number].words)
+        self.assertEqual(refused.remedy, lineage.GROUNDS[number].remedy)
+        self.assertTrue(str(refused).endswith(refused.ground))
+        self.assertEqual(f"at lot {lot}:" in str(refused), lineage.GROUNDS[number].names_lot)
+        self.assertEqual(str(pickle.loads(pickle.dumps(refused))), str(refused))
+
+    def test_trees(self):
+        self.refused(1, 0, Tree, [], [])
+        self.refused(2, 0, Tree, [0] * 65_537, [0] * 65_537)
+        self.refused(3, 0, Tree, [0, 0], [0])
+        self.refused(4, 0, Tree, [1, 0], [0, 0])
+        self.refused(5, 1, Tree, [0, 2], [0, 0])
+        self.refused(6, 1, Tree, [0, 0, 0], [0, 0, 0])
+        self.refused(7, 1, Tree, [0, 2, 1], [0, 0, 0])
+
+    def test_tree_files(self):
+        data = Tree(*FIVE).to_bytes()
+        self.refused(16, 0, Tree.from_bytes, b"\5\0\0")
+        self.refused(1, 0, Tree.from_bytes, b"\0" * 4)
+        self.refused(2, 0, Tree.from_bytes, b"\xff" * 100)
+        self.refused(17, 0, Tree.from_bytes, data[:-1])
+        self.refused(17, 0, Tree.from_bytes, data + b"\0")
+        self.refused(7, 1, Tree.from_bytes, struct.pack("<7I", 3, 0, 2, 1, 0, 0, 0))
+
+    def test_sheets(self):
+        tree = Tree(*FIVE)
+        sheet = Sheet(tree, "steep")
+        before = Sheet(tree, "steep")
+        self.refused(9, 0, sheet.lengthen, 5, 1)
+        self.refused(10, 0, sheet.lengthen, 0, 1)
+        self.refused(11, 1, sheet.lengthen, 1, 2**32 - 1)
+        self.refused(12, 1, sheet.shorten, 1, 1)
+        self.refused(9, 0, sheet.direction, 5, 1)
+        self.refused(13, 0, sheet.direction, 2, 2)
+        self.assertEqual(sheet, before)
+        self.refused(3, 0, Sheet.from_lists, tree, "steep", [1] * 4, sheet.x, sheet.y)
+        self.refused(8, 2, Sheet.from_lists, tree, "steep", sheet.times, [0, 1, 2, 2, 2], sheet.y)
+        self.refused(8, 0, Sheet.from_lists, Tree([0], [0]), "steep", [2], [0], [0])
+        self.assertEqual(Sheet.from_lists(Tree([0], [0]), "steep", [1], [0], [0]).frame, (0, 0))
+
+    def test_checks(self):
+        self.refused(3, 0, lineage.check, Tree(*FIVE), [0], [0])
+        self.refused(15, 2, lineage.check, Tree(*FIVE), [0, 0, 2**31, 0, 0], [0] * 5)
+        star = Tree([0] * 4097, [0, *range(4096)])
+        self.refused(14, 0, Sheet(star, "steep").check)
+
+    def test_limits_are_the_header_s(self):
+        header = (ROOT / "include/lineage.h").read_text()
+        for name in "MAX_LOTS", "CHECK_LOTS", "MAX_PLACE":
+            (given,) = re.findall(rf"#define LINEAGE_{name} (\d+)", header)
+            self.assertEqual(int(given), getattr(lineage, name))
+        self.assertEqual(list(lineage.GROUNDS), list(range(1, 18)))
+
+
+class Finding(unittest.TestCase):
+    """Where the library is looked for: by a copy of the module in a folder of its own."""
+
+    def setUp(self):
+        folder = tempfile.TemporaryDirectory()
+        self.addCleanup(folder.cleanup)
+        self.folder, self.library = Path(folder.name), Path(lineage._LIBRARY._name).resolve()
+        for name in "lineage.py", "refusals.txt":
+            shutil.copy(ROOT / "python" / name, self.folder)
+
+    def load(self, **environment):
+        """What a fresh Python says when it imports the module."""
+        clean = {k: v for k, v in os.environ.items() if k not in ("LINEAGE_LIBRARY", "LD_LIBRARY_PATH", "PYTHONPATH")}
+        command = [sys.executable, "-c", "import lineage; print(lineage._LIBRARY._name)"]
+        done = subprocess.run(command, cwd=self.folder, env={**clean, **environment}, capture_output=True, text=True)
+        return done.stdout.strip() or done.stderr.strip().splitlines()[-1]
+
+    def test_by_the_variable(self):
+        self.assertEqual(self.load(LINEAGE_LIBRARY=str(self.library)), str(self.library))
+
+    def test_beside_the_file(self):
+        shutil.copy(self.library, self.folder / "liblineage.so")
+        self.assertEqual(self.load(), str(self.folder / "liblineage.so"))
+
+    def test_by_the_system(self):
+        self.assertEqual(self.load(LD_LIBRARY_PATH=str(self.library.parent)), "liblineage.so.0")
+
+    def test_nowhere(self):
+        self.assertIn("LINEAGE_LIBRARY may name it", self.load())
+
+
+class WrongValues(unittest.TestCase):
+    """Python's own errors, before any call."""
+
+    def setUp(self):
+        self.ask, lineage._ask = lineage._ask, self.never
+        self.addCleanup(setattr, lineage, "_ask", self.ask)
+
+    def never(self, *arguments):
+        self.fail("a call was made")
+
+    def test_lists(self):
+        for wrong in [[0.0], ["0"], [None], "a", 7, None]:
+            self.assertRaises(ValueError, Tree, wrong, [0])
+            self.assertRaises(ValueError, Tree, [0], wrong)
+        for wrong in [[-1], [2**32], [10**30]]:
+            self.assertRaises(OverflowError, Tree, wrong, [0])
+            self.assertRaises(OverflowError, Tree, [0], wrong)
+
+    def test_bytes(self):
+        for wrong in "text", [1, 2], 5, None:
+            self.assertRaises(ValueError, Tree.from_bytes, wrong)
+
+    def test_numbers(self):
+        lineage._ask = self.ask
+        sheet = Sheet(Tree(*FIVE), "balanced")
+        lineage._ask = self.never
+        for wrong, error in ("1", ValueError), (1.0, ValueError), (-1, OverflowError), (2**32, OverflowError):
+            for call in sheet.lengthen, sheet.shorten, sheet.direction:
+                self.assertRaises(error, call, wrong, 1)
+                self.assertRaises(error, call, 1, wrong)
+            self.assertRaises(error, sheet.place, wrong)
+            self.assertRaises(error, lineage.check, sheet.tree, [wrong] * 5, sheet.y)
+        self.assertRaises(IndexError, sheet.place, 5)
+
+    def test_rules(self):
+        lineage._ask = self.ask
+        tree = Tree(*FIVE)
+        lineage._ask = self.never
+        for wrong in "Steep", True, None:
+            self.assertRaises(ValueError, Sheet, tree, wrong)
+            self.assertRaises(ValueError, lineage.direction, tree, wrong, 1, 2)
+
+
+if __name__ == "__main__":
+    unittest.main()
