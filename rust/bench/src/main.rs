@@ -2,8 +2,6 @@
 //!
 //!     cargo run --release -p bench [-- SAMPLES]
 
-use lineage as _;
-
 /// The thread's own time in microseconds, which other programs on the machine do not count in.
 fn now() -> f64 {
     #[repr(C)]
@@ -21,130 +19,62 @@ fn now() -> f64 {
     time.seconds as f64 * 1e6 + time.nanoseconds as f64 / 1e3
 }
 
+/// The plain C version's calls, which have the types of the proved ones.
+mod plain_c {
+    lineage::calls!(
+        plain_layout,
+        [lengthen = plain_lengthen, shorten = plain_shorten],
+        plain_direction,
+        plain_check,
+        plain_read_tree,
+        plain_write_tree
+    );
+}
+
 /// One library's calls, on the lists of `Lists`.
-macro_rules! calls {
-    ($module:ident, $layout:ident, $lengthen:ident, $shorten:ident, $direction:ident, $check:ident, $read:ident, $write:ident) => {
-        #[rustfmt::skip]
+macro_rules! on_lists {
+    ($module:ident, $calls:path) => {
         mod $module {
             use super::Lists;
+            use lineage::raw;
+            use $calls as calls;
 
-            type In = *const u32;
-            type InOut = *mut u32;
-
-            extern "C" {
-                fn $layout(
-                    b: bool, p: In, pn: usize, r: In, rn: usize, t: InOut, tn: usize, x: InOut, xn: usize,
-                    y: InOut, yn: usize, w: InOut, wn: usize, q: *mut i64, qn: usize,
-                ) -> bool;
-                fn $lengthen(
-                    b: bool, p: In, pn: usize, r: In, rn: usize, t: InOut, tn: usize, x: InOut, xn: usize,
-                    y: InOut, yn: usize, w: InOut, wn: usize, lot: u32, count: u32, q: *mut i64, qn: usize,
-                ) -> bool;
-                fn $shorten(
-                    b: bool, p: In, pn: usize, r: In, rn: usize, t: InOut, tn: usize, x: InOut, xn: usize,
-                    y: InOut, yn: usize, w: InOut, wn: usize, lot: u32, count: u32, q: *mut i64, qn: usize,
-                ) -> bool;
-                fn $direction(
-                    b: bool, p: In, pn: usize, r: In, rn: usize, w: InOut, wn: usize, from: u32, to: u32,
-                    q: *mut i64, qn: usize,
-                ) -> bool;
-                fn $check(
-                    p: In, pn: usize, r: In, rn: usize, x: In, xn: usize, y: In, yn: usize, w: InOut,
-                    wn: usize, q: *mut i64, qn: usize,
-                ) -> bool;
-                fn $read(
-                    b: *const u8, bn: usize, p: InOut, pn: usize, r: InOut, rn: usize, w: InOut, wn: usize,
-                    q: *mut i64, qn: usize,
-                ) -> bool;
-                fn $write(
-                    p: In, pn: usize, r: In, rn: usize, b: *mut u8, bn: usize, w: InOut, wn: usize,
-                    q: *mut i64, qn: usize,
-                ) -> bool;
-            }
-
-            // SAFETY, of all: each address has its list's length, and the lists are apart.
             pub fn layout(l: &mut Lists, balanced: bool) {
-                let n = l.lots();
-                assert!(unsafe { $layout(
-                    balanced, l.parent.as_ptr(), n, l.rank.as_ptr(), n, l.times.as_mut_ptr(), n,
-                    l.x.as_mut_ptr(), n, l.y.as_mut_ptr(), n, l.work.as_mut_ptr(), 4 * n, l.reply.as_mut_ptr(),
-                    3,
-                ) });
+                let s = raw::Lists { times: &mut l.times, x: &mut l.x, y: &mut l.y };
+                assert!(calls::layout(balanced, &l.parent, &l.rank, s, &mut l.work, &mut l.reply));
             }
 
             pub fn lengthen(l: &mut Lists, balanced: bool, lot: u32) {
-                let n = l.lots();
-                assert!(unsafe { $lengthen(
-                    balanced, l.parent.as_ptr(), n, l.rank.as_ptr(), n, l.times.as_mut_ptr(), n,
-                    l.x.as_mut_ptr(), n, l.y.as_mut_ptr(), n, l.work.as_mut_ptr(), 4 * n, lot, 1,
-                    l.reply.as_mut_ptr(), 3,
-                ) });
+                let s = raw::Lists { times: &mut l.times, x: &mut l.x, y: &mut l.y };
+                assert!(calls::lengthen(balanced, &l.parent, &l.rank, s, &mut l.work, lot, 1, &mut l.reply));
             }
 
             pub fn shorten(l: &mut Lists, balanced: bool, lot: u32) {
-                let n = l.lots();
-                assert!(unsafe { $shorten(
-                    balanced, l.parent.as_ptr(), n, l.rank.as_ptr(), n, l.times.as_mut_ptr(), n,
-                    l.x.as_mut_ptr(), n, l.y.as_mut_ptr(), n, l.work.as_mut_ptr(), 4 * n, lot, 1,
-                    l.reply.as_mut_ptr(), 3,
-                ) });
+                let s = raw::Lists { times: &mut l.times, x: &mut l.x, y: &mut l.y };
+                assert!(calls::shorten(balanced, &l.parent, &l.rank, s, &mut l.work, lot, 1, &mut l.reply));
             }
 
             pub fn direction(l: &mut Lists, balanced: bool, from: u32, to: u32) {
-                let n = l.lots();
-                assert!(unsafe { $direction(
-                    balanced, l.parent.as_ptr(), n, l.rank.as_ptr(), n, l.work.as_mut_ptr(), 4 * n, from, to,
-                    l.reply.as_mut_ptr(), 3,
-                ) });
+                assert!(calls::direction(balanced, &l.parent, &l.rank, &mut l.work, from, to, &mut l.reply));
             }
 
             pub fn check(l: &mut Lists) {
-                let n = l.lots();
-                assert!(unsafe { $check(
-                    l.parent.as_ptr(), n, l.rank.as_ptr(), n, l.x.as_ptr(), n, l.y.as_ptr(), n,
-                    l.work.as_mut_ptr(), 4 * n, l.reply.as_mut_ptr(), 3,
-                ) });
+                assert!(calls::check(&l.parent, &l.rank, &l.x, &l.y, &mut l.work, &mut l.reply));
             }
 
             pub fn read_tree(l: &mut Lists) {
-                let n = l.lots();
-                assert!(unsafe { $read(
-                    l.bytes.as_ptr(), 4 + 8 * n, l.parent.as_mut_ptr(), n, l.rank.as_mut_ptr(), n,
-                    l.work.as_mut_ptr(), 4 * n, l.reply.as_mut_ptr(), 3,
-                ) });
+                assert!(calls::read_tree(&l.bytes, &mut l.parent, &mut l.rank, &mut l.work, &mut l.reply));
             }
 
             pub fn write_tree(l: &mut Lists) {
-                let n = l.lots();
-                assert!(unsafe { $write(
-                    l.parent.as_ptr(), n, l.rank.as_ptr(), n, l.bytes.as_mut_ptr(), 4 + 8 * n,
-                    l.work.as_mut_ptr(), 4 * n, l.reply.as_mut_ptr(), 3,
-                ) });
+                assert!(calls::write_tree(&l.parent, &l.rank, &mut l.bytes, &mut l.work, &mut l.reply));
             }
         }
     };
 }
 
-calls!(
-    proved,
-    lineage_layout,
-    lineage_lengthen,
-    lineage_shorten,
-    lineage_direction,
-    lineage_check,
-    lineage_read_tree,
-    lineage_write_tree
-);
-calls!(
-    plain,
-    plain_layout,
-    plain_lengthen,
-    plain_shorten,
-    plain_direction,
-    plain_check,
-    plain_read_tree,
-    plain_write_tree
-);
+on_lists!(proved, lineage::raw);
+on_lists!(plain, super::plain_c);
 
 /// The lists that the calls work on.
 struct Lists {
@@ -206,8 +136,8 @@ fn lists(shape: &str, n: usize) -> Lists {
     Lists { parent, rank, times, x, y, work: vec![0; 4 * n], bytes: vec![0; 4 + 8 * n], reply: [0; 3] }
 }
 
-/// The medians and the least of the times, in microseconds, of two calls that are made in turn; `undo` is made between and
-/// not timed.
+/// The medians and the least of the times, in microseconds, of two calls that are made in turn; `undo` is made between
+/// and not timed.
 fn pair(
     samples: usize,
     l: &mut Lists,
