@@ -196,9 +196,9 @@ fn stretch(
     let node = call.node;
     let count = call.count;
     if call.longer {
-        return drawing::lengthen(rule, parent, rank, times, x, y, work, node, count);
+        return stretching::lengthen(rule, parent, rank, times, x, y, work, node, count);
     }
-    drawing::shorten(rule, parent, rank, times, x, y, work, node, count)
+    stretching::shorten(rule, parent, rank, times, x, y, work, node, count)
 }
 
 // One call, its answer and what it leaves.
@@ -284,7 +284,7 @@ fn reach(
 ) {
     let mut count = 2147483648;
     while 0 < count {
-        drawing::lengthen(rule, parent, rank, times, x, y, work, node, count);
+        stretching::lengthen(rule, parent, rank, times, x, y, work, node, count);
         count /= 2;
     }
     let call = longer(node, 1);

@@ -11,7 +11,7 @@ use Prim.Native.Nat.{ℕ, _*_}
 use lib.IntN.{ℤ, pos, negℤ}
 use lib.ListN.{length}
 use Rattle.laws.specs.Refusals.{refusal}
-use Rattle.laws.specs.Search.{count, least, tabulate}
+use Rattle.laws.specs.Search.{count, least, tabulate, Outcome}
 use Rattle.table.specs.Table.{climb, leads, isChild, children, isChildAt, childAt, under, rise, forest, postorder}
 use Rattle.table.specs.Table.{place, order, postNumber, large, checked, strayParent, badRank, adrift, allLong}
 use Rattle.table.specs.Table.{shapeFault, treeFault, tableFault}
@@ -21,11 +21,12 @@ use Rattle.slopes.specs.Examples.{_over_}
 use Rattle.slopes.specs.Slopes.{levels, flat, upright, levelsFor, slopeAt, edge}
 use Rattle.drawing.specs.declared.Framed.{Framed}
 use Rattle.drawing.specs.declared.Framed.the-variants.{Frame, Refused}
-use Rattle.drawing.specs.Drawing.{Drawing, Outcome, sumUp, pathSum, freshPlaces, fresh, largest, frame, placed}
+use Rattle.drawing.specs.Drawing.{Drawing, sumUp, pathSum, freshPlaces, fresh, largest, frame, placed}
 use Rattle.drawing.specs.Drawing.{nodeFits}
-use Rattle.drawing.specs.Drawing.{moved, stretched, beyond, settle, drawingFault, layout, lengthen, shorten, lent}
+use Rattle.drawing.specs.Drawing.{drawingFault, layout, lent}
+use Rattle.stretching.specs.Stretching.{moved, stretched, beyond, edgeFault, stretchFault, lengthen, shorten}
 use Rattle.direction.specs.declared.Heading.the-variants.{Along}
-use Rattle.direction.specs.Direction.{sideways, heading, pairFault, reply, direction}
+use Rattle.direction.specs.Direction.{sideways, heading, pairFault, direction}
 use Rattle.monotone.specs.declared.Verdict.{Verdict}
 use Rattle.monotone.specs.declared.Verdict.the-variants.{Monotone, Turns}
 use Rattle.monotone.specs.Decision.{widen, span, upward, downward, pathVectors, turnsAt, secondNode, firstNode, decide}
@@ -46,7 +47,7 @@ pub data Case : Type 0 where
   -- the post numbers of a table's nodes
   Numbers : List ℕ → List ℕ → List ℕ → Case
   -- an outcome of layout, lengthen or shorten: the answer and the drawing
-  Calls : Outcome → Framed → Drawing → Case
+  Calls : Outcome Framed Drawing → Framed → Drawing → Case
   -- the steep direction of the five-lot table from u to v
   Goes : ℕ → ℕ → ℤ → ℤ → Case
   -- the fractions of levels 1 to k
@@ -58,7 +59,7 @@ pub data Case : Type 0 where
 
 unfoldable pub Holds : Case → Type 0
 Holds (Numbers P R l) = tabulate (length P) (postNumber P R) ≡ l
-Holds (Calls o a s) = o ≡ record { answer = a; drawing = s }
+Holds (Calls o a s) = o ≡ record { answer = a; left = s }
 Holds (Goes u v d e) = direction large fiveParents fiveRanks Steep 20 u v ≡ Along d e
 Holds (Levels k l) = levels k flat upright ≡ l
 Holds (Checks P R x y r) = Says checked P R x y (4 * length P) r
@@ -143,7 +144,7 @@ pub cases-hold : AllHold cases
 unfolding AllHold Holds cases count least tabulate climb leads isChild children isChildAt childAt under rise forest
     postorder place order postNumber strayParent badRank adrift allLong shapeFault treeFault tableFault
     levels levelsFor slopeAt edge sumUp pathSum freshPlaces fresh largest frame placed nodeFits moved stretched beyond
-    settle drawingFault layout lengthen shorten sideways heading pairFault reply direction
+    drawingFault edgeFault stretchFault layout lengthen shorten sideways heading pairFault direction
     monotone.beyond checkFault widen span upward downward pathVectors turnsAt secondNode firstNode decide
 cases-hold =
     refl and refl and refl and refl and refl and refl and refl

@@ -15,6 +15,7 @@ use Prim.Native.Nat.{ℕ, _+_, _-_, _*_, _≤_, _<_}
 use lib.Dec.{eqb}
 use lib.IntN.{ℤ}
 use lib.ListN.{length, getD}
+use Rattle.laws.specs.Search.{Outcome}
 use Rattle.table.specs.declared.Limits.{Limits}
 use Rattle.table.specs.Paths.{PathRises, SharePoint, CommonEnd}
 use Rattle.table.specs.Table.{parent, large, checked}
@@ -22,7 +23,8 @@ use Rattle.slopes.specs.declared.Rule.{Rule}
 use Rattle.slopes.specs.Slopes.{acrossOf, upOf, edge}
 use Rattle.drawing.specs.declared.Framed.{Framed}
 use Rattle.drawing.specs.declared.Framed.the-variants.{Frame, Refused}
-use Rattle.drawing.specs.Drawing.{Drawing, Outcome, pathSum, layout, lengthen, shorten}
+use Rattle.drawing.specs.Drawing.{Drawing, pathSum, layout}
+use Rattle.stretching.specs.Stretching.{lengthen, shorten}
 use Rattle.direction.specs.declared.Heading.the-variants.{Along}
 use Rattle.direction.specs.Direction.{direction}
 use Rattle.monotone.specs.declared.Verdict.{Verdict}
@@ -51,18 +53,18 @@ takes (Shorten v c work) z = cond (eqb v z) c 0
 
 -- with the limits L, on the table P and R under the rule
 module _ (L : Limits) (P R : List ℕ) (rule : Rule) where
-  unfoldable pub make : Drawing → Call → Outcome
+  unfoldable pub make : Drawing → Call → Outcome Framed Drawing
   make s (Lengthen v c work) = lengthen L P R rule s work v c
   make s (Shorten v c work) = shorten L P R rule s work v c
 
   unfoldable pub run : Drawing → List Call → Drawing
   run s [] = s
-  run s (c ∷ cs) = run (make s c .drawing) cs
+  run s (c ∷ cs) = run (make s c .left) cs
 
   -- the sum of `what` over the accepted calls
   unfoldable pub total : (Call → ℕ → ℕ) → Drawing → List Call → ℕ → ℕ
   total what s [] z = 0
-  total what s (c ∷ cs) z = cond (accepted (make s c .answer)) (what c z) 0 + total what (make s c .drawing) cs z
+  total what s (c ∷ cs) z = cond (accepted (make s c .answer)) (what c z) 0 + total what (make s c .left) cs z
 
   unfoldable pub added : Drawing → List Call → ℕ → ℕ
   added = total adds
@@ -100,5 +102,5 @@ module _ (L : Limits) (P R : List ℕ) (rule : Rule) where
 
 unfoldable pub Claim : Limits → Type 0
 Claim L = (P R : List ℕ) (rule : Rule) (old : Drawing) (work w h : ℕ) (s : Drawing)
-    → layout L P R rule old work ≡ record { answer = Frame w h; drawing = s }
+    → layout L P R rule old work ≡ record { answer = Frame w h; left = s }
     → (calls : List Call) → Assured L P R rule s calls (run L P R rule s calls)

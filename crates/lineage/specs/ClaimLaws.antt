@@ -26,12 +26,14 @@ use Rattle.table.specs.TableLaws.{Tree}
 use Rattle.slopes.specs.declared.Rule.{Rule}
 use Rattle.slopes.specs.declared.Slope.{Slope}
 use Rattle.slopes.specs.Slopes.{acrossOf, upOf, edge}
-use Rattle.drawing.specs.CallLaws.{settled, Untouched, Stretching, layout-drawn, lengthen-does, shorten-does}
+use Rattle.drawing.specs.CallLaws.{settled, layout-drawn}
 use Rattle.drawing.specs.declared.Framed.the-variants.{Frame}
-use Rattle.drawing.specs.Drawing.{Drawing, lengthsFit, frame, pathSum, fresh, layout, lengthen, shorten}
+use Rattle.drawing.specs.Drawing.{Drawing, lengthsFit, frame, pathSum, fresh, layout}
 use Rattle.drawing.specs.DrawingLaws.{Coordinate, Drawn, stepOf}
 use Rattle.drawing.specs.FreshLaws.{Roomy, large-roomy, fresh-once}
 use Rattle.drawing.specs.PathLaws.{adds-path, path-cong}
+use Rattle.stretching.specs.CallLaws.{Untouched, Stretching, lengthen-does, shorten-does}
+use Rattle.stretching.specs.Stretching.{lengthen, shorten}
 use Rattle.direction.specs.declared.Heading.the-variants.{Along}
 use Rattle.direction.specs.Direction.{direction}
 use Rattle.direction.specs.DirectionLaws.{direction-rises, edges-apart}
@@ -62,9 +64,9 @@ module _ (L : Limits) (P R : List ℕ) (rule : Rule) where
   share what s c z = cond (accepted (make L P R rule s c .answer)) (what c z) 0
 
   record Step (s : Drawing) (c : Call) : Type 0 where
-    pub drawn : Drawn (L .place) P R rule (make L P R rule s c .drawing)
+    pub drawn : Drawn (L .place) P R rule (make L P R rule s c .left)
     pub times : (z : ℕ) → z < length P
-        → getD (make L P R rule s c .drawing .times) z 0 + share takes s c z ≡ getD (s .times) z 0 + share adds s c z
+        → getD (make L P R rule s c .left .times) z 0 + share takes s c z ≡ getD (s .times) z 0 + share adds s c z
 
   refused-share : (what : Call → ℕ → ℕ) (s : Drawing) (c : Call) (z : ℕ) → Untouched s (make L P R rule s c)
       → share what s c z ≡ 0
@@ -72,16 +74,16 @@ module _ (L : Limits) (P R : List ℕ) (rule : Rule) where
   refused-share what s c z u = rw (u .answer) refl
 
   accepted-share : (what : Call → ℕ → ℕ) (s : Drawing) (c : Call) (z : ℕ)
-      → make L P R rule s c .answer ≡ frame (make L P R rule s c .drawing) → share what s c z ≡ what c z
+      → make L P R rule s c .answer ≡ frame (make L P R rule s c .left) → share what s c z ≡ what c z
   unfolding share accepted frame
   accepted-share what s c z e = rw e refl
 
   untouched-step : (s : Drawing) (c : Call) → Drawn (L .place) P R rule s → Untouched s (make L P R rule s c) → Step s c
   untouched-step s c d u = record {
-    drawn = subst⁻¹ (Drawn (L .place) P R rule) (u .drawing) d;
+    drawn = subst⁻¹ (Drawn (L .place) P R rule) (u .left) d;
     times = λ z l. omega (
       arith,
-      ap (λ (t : Drawing). getD (t .times) z 0) (u .drawing),
+      ap (λ (t : Drawing). getD (t .times) z 0) (u .left),
       refused-share takes s c z u,
       refused-share adds s c z u,
     );
@@ -91,13 +93,13 @@ module _ (L : Limits) (P R : List ℕ) (rule : Rule) where
   unfolding make adds takes
   step s (Lengthen v k work) d =
       ⊎-elim (untouched-step s (Lengthen v k work) d)
-      (λ (m : Stretching L P R rule v k s (lengthen L P R rule s work v k .drawing)
+      (λ (m : Stretching L P R rule v k s (lengthen L P R rule s work v k .left)
       (lengthen L P R rule s work v k)). record {
         drawn = m .drawn;
         times = λ z l. by-eq v z
             (λ e. omega (
               arith,
-              ap (λ (y : ℕ). getD (lengthen L P R rule s work v k .drawing .times) y 0) e,
+              ap (λ (y : ℕ). getD (lengthen L P R rule s work v k .left .times) y 0) e,
               ap (λ (y : ℕ). getD (s .times) y 0) e,
               m .stretch .here,
               accepted-share takes s (Lengthen v k work) z (m .answer),
@@ -113,13 +115,13 @@ module _ (L : Limits) (P R : List ℕ) (rule : Rule) where
       (lengthen-does L P R rule s work v k)
   step s (Shorten v k work) d =
       ⊎-elim (untouched-step s (Shorten v k work) d)
-      (λ (m : Stretching L P R rule v k (shorten L P R rule s work v k .drawing) s
+      (λ (m : Stretching L P R rule v k (shorten L P R rule s work v k .left) s
       (shorten L P R rule s work v k)). record {
         drawn = m .drawn;
         times = λ z l. by-eq v z
             (λ e. omega (
               arith,
-              ap (λ (y : ℕ). getD (shorten L P R rule s work v k .drawing .times) y 0) e,
+              ap (λ (y : ℕ). getD (shorten L P R rule s work v k .left .times) y 0) e,
               ap (λ (y : ℕ). getD (s .times) y 0) e,
               m .stretch .here,
               accepted-share adds s (Shorten v k work) z (m .answer),
@@ -148,7 +150,7 @@ module _ (L : Limits) (P R : List ℕ) (rule : Rule) where
   ran s [] d = record { drawn = d; times = λ z l. refl }
   ran s (c ∷ cs) d =
       let one = step s c d in
-      let rest = ran (make L P R rule s c .drawing) cs (one .drawn) in
+      let rest = ran (make L P R rule s c .left) cs (one .drawn) in
       record { drawn = rest .drawn; times = λ z l. omega (arith, one .times z l, rest .times z l) }
 
 ------------------------------------------------------------------------
@@ -216,7 +218,7 @@ module _ (L : Limits) (fit : Fitting L) (P R : List ℕ) (rule : Rule) (long : B
   unfolding checkFault beyond allLong t
   unrefused h =
       orElse-second _ _ (accepted-within L checked P R long _ work fine h lists)
-      ∙ refuseLeast-no (checked .beyond) (length P) (beyond (checked .place) (t .x) (t .y)) (length P)
+      ∙ refuseLeast-no (checked .far) (length P) (beyond (checked .place) (t .x) (t .y)) (length P)
       (least-is (beyond (checked .place) (t .x) (t .y)) (length P) (length P) (omega arith) near
       (λ l. absurd (omega arith)))
       (omega arith)
@@ -259,11 +261,11 @@ module _ (L : Limits) (fit : Fitting L) (P R : List ℕ) (rule : Rule) (long : B
   }
 
 layout-fine : (L : Limits) (P R : List ℕ) (rule : Rule) (old : Drawing) (work w h : ℕ) (s : Drawing)
-    → layout L P R rule old work ≡ record { answer = Frame w h; drawing = s }
+    → layout L P R rule old work ≡ record { answer = Frame w h; left = s }
     → tableFault L P R (lengthsFit P old) work ≡ none
 unfolding layout
 layout-fine L P R rule old work w h s e =
-    settled old (fresh P R rule) (tableFault L P R (lengthsFit P old) work) e .0
+    settled old (fresh P R rule) (frame (fresh P R rule)) (tableFault L P R (lengthsFit P old) work) e .0
 
 pub claim : (L : Limits) → Fitting L → Claim L
 unfolding Claim

@@ -10,10 +10,11 @@ use mathlib.Core.Path.{_≡_, refl}
 use Prim.Native.Nat.{ℕ, zero, suc}
 use lib.Dec.{eqb}
 use lib.ListN.{length, getD}
+use Rattle.laws.specs.Search.{Outcome}
 use Rattle.table.specs.declared.Limits.{Limits}
 use Rattle.slopes.specs.declared.Rule.{Rule}
 use Rattle.drawing.specs.declared.Framed.{Framed}
-use Rattle.drawing.specs.Drawing.{Drawing, Outcome, layout}
+use Rattle.drawing.specs.Drawing.{Drawing, layout}
 use Rattle.lineage.specs.Claim.{Call, Lengthen, Shorten, accepted, make, run}
 
 unfoldable pub callOf : ℕ → ℕ → ℕ → ℕ → Call
@@ -24,14 +25,14 @@ callsTo K N C work zero = []
 callsTo K N C work (suc m) = callsTo K N C work m ++ (callOf (getD K m 0) (getD N m 0) (getD C m 0) work ∷ [])
 
 module _ (L : Limits) (P R : List ℕ) (rule : Rule) where
-  unfoldable pub after : Outcome → List Call → Drawing
-  after o calls = cond (accepted (o .answer)) (run L P R rule (o .drawing) calls) (o .drawing)
+  unfoldable pub after : Outcome Framed Drawing → List Call → Drawing
+  after o calls = cond (accepted (o .answer)) (run L P R rule (o .left) calls) (o .left)
 
   pub run-last : (s : Drawing) (cs : List Call) (c : Call)
-      → run L P R rule s (cs ++ (c ∷ [])) ≡ make L P R rule (run L P R rule s cs) c .drawing
+      → run L P R rule s (cs ++ (c ∷ [])) ≡ make L P R rule (run L P R rule s cs) c .left
   unfolding run
   run-last s [] c = refl
-  run-last s (b ∷ cs) c = run-last (make L P R rule s b .drawing) cs c
+  run-last s (b ∷ cs) c = run-last (make L P R rule s b .left) cs c
 
 -- the reply is layout's, and the lists are what the run leaves
 pub record Replayed (L : Limits) (P R : List ℕ) (rule : Rule) (s : Drawing) (work : ℕ) (K N C : List ℕ)

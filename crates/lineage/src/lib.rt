@@ -12,11 +12,11 @@ ghost use mathlib.Core.Path.{_≡_};
 ghost use lib.IntN.{pos};
 ghost use lib.ListN.{length};
 ghost use Rattle.table.specs.Table.{large, checked};
-ghost use Rattle.drawing.specs.Drawing.{lent, Laid, Lengthened, Shortened};
+ghost use Rattle.drawing.specs.Drawing.{lent, layout, OnDrawing};
+ghost use Rattle.stretching.specs.Stretching.{lengthen, shorten};
 ghost use Rattle.direction.specs.Direction.{Directed};
 ghost use Rattle.monotone.specs.Monotone.{Checked};
-ghost use Rattle.treefile.specs.Bytes.{Read, Wrote};
-ghost use Rattle.treefile.specs.TreeFile.{statedOrZero};
+ghost use Rattle.treefile.specs.TreeFile.{statedOrZero, Read, Wrote};
 ghost use Rattle.lineage.specs.Exports.{ruleOf, three, framedReply, headingReply, verdictReply, loadedReply};
 ghost use Rattle.lineage.specs.Exports.{savedReply, Short, Exported};
 
@@ -121,9 +121,11 @@ pub extern "C" fn lineage_layout(
     reply: &mut [i64],
 ) -> bool
     ensures { λ b. ⌜ Exported
-        (Laid large (now (parent .entry)) (now (rank .entry)) (ruleOf balanced)
+        (λ r. OnDrawing large (now (parent .entry)) (now (rank .entry))
         (lent (now (times .entry)) (now (x .entry)) (now (y .entry))) (now (work .entry))
-        (lent (now (times .exit)) (now (x .exit)) (now (y .exit))) (now (work .exit)))
+        (lent (now (times .exit)) (now (x .exit)) (now (y .exit))) (now (work .exit)) r
+        (layout large (now (parent .entry)) (now (rank .entry)) (ruleOf balanced)
+        (lent (now (times .entry)) (now (x .entry)) (now (y .entry))) (length (now (work .entry)))))
         framedReply
         ((lent (now (times .exit)) (now (x .exit)) (now (y .exit))
         ≡ lent (now (times .entry)) (now (x .entry)) (now (y .entry)))
@@ -153,9 +155,11 @@ pub extern "C" fn lineage_lengthen(
     reply: &mut [i64],
 ) -> bool
     ensures { λ b. ⌜ Exported
-        (Lengthened large (now (parent .entry)) (now (rank .entry)) (ruleOf balanced)
-        (lent (now (times .entry)) (now (x .entry)) (now (y .entry))) (now (work .entry)) lot count
-        (lent (now (times .exit)) (now (x .exit)) (now (y .exit))) (now (work .exit)))
+        (λ r. OnDrawing large (now (parent .entry)) (now (rank .entry))
+        (lent (now (times .entry)) (now (x .entry)) (now (y .entry))) (now (work .entry))
+        (lent (now (times .exit)) (now (x .exit)) (now (y .exit))) (now (work .exit)) r
+        (lengthen large (now (parent .entry)) (now (rank .entry)) (ruleOf balanced)
+        (lent (now (times .entry)) (now (x .entry)) (now (y .entry))) (length (now (work .entry))) lot count))
         framedReply
         ((lent (now (times .exit)) (now (x .exit)) (now (y .exit))
         ≡ lent (now (times .entry)) (now (x .entry)) (now (y .entry)))
@@ -165,7 +169,7 @@ pub extern "C" fn lineage_lengthen(
     if reply.len() != 3 {
         return false;
     }
-    let answer = drawing::lengthen(
+    let answer = stretching::lengthen(
         rule_of(balanced),
         parent,
         rank,
@@ -195,9 +199,11 @@ pub extern "C" fn lineage_shorten(
     reply: &mut [i64],
 ) -> bool
     ensures { λ b. ⌜ Exported
-        (Shortened large (now (parent .entry)) (now (rank .entry)) (ruleOf balanced)
-        (lent (now (times .entry)) (now (x .entry)) (now (y .entry))) (now (work .entry)) lot count
-        (lent (now (times .exit)) (now (x .exit)) (now (y .exit))) (now (work .exit)))
+        (λ r. OnDrawing large (now (parent .entry)) (now (rank .entry))
+        (lent (now (times .entry)) (now (x .entry)) (now (y .entry))) (now (work .entry))
+        (lent (now (times .exit)) (now (x .exit)) (now (y .exit))) (now (work .exit)) r
+        (shorten large (now (parent .entry)) (now (rank .entry)) (ruleOf balanced)
+        (lent (now (times .entry)) (now (x .entry)) (now (y .entry))) (length (now (work .entry))) lot count))
         framedReply
         ((lent (now (times .exit)) (now (x .exit)) (now (y .exit))
         ≡ lent (now (times .entry)) (now (x .entry)) (now (y .entry)))
@@ -207,7 +213,7 @@ pub extern "C" fn lineage_shorten(
     if reply.len() != 3 {
         return false;
     }
-    let answer = drawing::shorten(
+    let answer = stretching::shorten(
         rule_of(balanced),
         parent,
         rank,

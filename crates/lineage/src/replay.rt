@@ -24,12 +24,12 @@ fn make_call(
 ) -> Framed
     ensures { λ _. ⌜ lent (now (times .exit)) (now (x .exit)) (now (y .exit)) ≡ make large (now (parent .entry))
         (now (rank .entry)) rule (lent (now (times .entry)) (now (x .entry)) (now (y .entry)))
-        (callOf kind lot count (length (now (work .entry)))) .drawing ⌝ }
+        (callOf kind lot count (length (now (work .entry)))) .left ⌝ }
 {
     if kind == 0 {
-        return drawing::lengthen(rule, parent, rank, times, x, y, work, lot, count);
+        return stretching::lengthen(rule, parent, rank, times, x, y, work, lot, count);
     }
-    drawing::shorten(rule, parent, rank, times, x, y, work, lot, count)
+    stretching::shorten(rule, parent, rank, times, x, y, work, lot, count)
 }
 
 // Makes the calls of the lists in order.

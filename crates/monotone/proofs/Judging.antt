@@ -18,7 +18,7 @@ use Rattle.table.specs.Acceptance.{Accepting, accepting, validity-accepted, val
 use Rattle.table.specs.declared.Limits.{Limits}
 use Rattle.table.specs.declared.Validity.the-variants.{Accepted, Refused}
 use Rattle.table.specs.Numbering.{Numbering, Numbered, numbering, number-at}
-use Rattle.table.specs.Table.{order, postNumber, allLong, shapeFault, tableFault}
+use Rattle.table.specs.Table.{order, postNumber, allLong, shapeFault, tableFault, large, farthest}
 use Rattle.table.specs.Work.{Validated}
 use Rattle.monotone.specs.declared.Verdict.{Verdict}
 use Rattle.monotone.specs.declared.Verdict.the-variants as verdict
@@ -81,6 +81,7 @@ module _ (x y : List ℕ) {L : Limits} {P R : List ℕ} {long : Bool} {W X : Lis
     says = orElse-first _ _ (subst (λ (b : Bool). tableFault L P R b (length W) ≡ refusal k v) lengths
         (validity-refused (tableFault L P R long (length W)) k v (sym (t .answer))));
     spared = λ f e. t .spared f (subst⁻¹ (λ (b : Bool). shapeFault L P R b (length W) ≡ some f) lengths e);
+    long = t .kept .long;
   }
 
   module _ (t : Validated L P R long W X Accepted) where
@@ -104,7 +105,7 @@ module _ (x y : List ℕ) {L : Limits} {P R : List ℕ} {long : Bool} {W X : Lis
     unfolding allLong
     y-long = eqb-true _ _ (both _ true (both (eqb (length x) (length P)) _ (known .shape .others) .1) .0)
 
-    pub few-nodes : L .nodes ≤ 65536 → length P ≤ 65536
+    pub few-nodes : L .nodes ≤ large .nodes → length P ≤ large .nodes
     few-nodes nodes = omega (arith, known .shape .few)
 
     module _ {v : ℕ} (far : v ≡ least (beyond (L .place) x y) (length x)) where
@@ -112,11 +113,12 @@ module _ (x y : List ℕ) {L : Limits} {P R : List ℕ} {long : Bool} {W X : Lis
       far-is = far ∙ ap (least (beyond (L .place) x y)) x-long
 
       -- refusal 15
-      pub checked-far : {Y : List ℕ} → v < length P → Checked L P R x y W Y (verdict.Refused (L .beyond) v)
+      pub checked-far : {Y : List ℕ} → length Y ≡ length W → v < length P → Checked L P R x y W Y (verdict.Refused (L .far) v)
       unfolding Says checkFault
-      checked-far l = record {
-        says = orElse-second _ _ accepted ∙ refuseLeast-yes (L .beyond) (length P) (beyond (L .place) x y) v far-is l;
+      checked-far same l = record {
+        says = orElse-second _ _ accepted ∙ refuseLeast-yes (L .far) (length P) (beyond (L .place) x y) v far-is l;
         spared = passed;
+        long = same;
       }
 
       module _ (near : length P ≤ v) where
@@ -124,12 +126,12 @@ module _ (x y : List ℕ) {L : Limits} {P R : List ℕ} {long : Bool} {W X : Lis
         unfolding checkFault
         no-fault =
             orElse-second _ _ accepted
-            ∙ refuseLeast-no (L .beyond) (length P) (beyond (L .place) x y) v far-is near
+            ∙ refuseLeast-no (L .far) (length P) (beyond (L .place) x y) v far-is near
 
         -- no refusal
-        pub checked-found : {Y : List ℕ} (r : Verdict) → Found P x y r → Checked L P R x y W Y r
+        pub checked-found : {Y : List ℕ} → length Y ≡ length W → (r : Verdict) → Found P x y r → Checked L P R x y W Y r
         unfolding Says
-        checked-found r f = record { says = says r f; spared = passed }
+        checked-found same r f = record { says = says r f; spared = passed; long = same }
           where
             says : (r : Verdict) → Found P x y r → Says L P R x y (length W) r
             says verdict.Monotone f = (no-fault, f)
@@ -140,7 +142,7 @@ module _ (x y : List ℕ) {L : Limits} {P R : List ℕ} {long : Bool} {W X : Lis
         within w l =
             both-within (L .place) x y w (least-none (beyond (L .place) x y) (length P) (omega (arith, far-is)) w l)
 
-        pub judged : L .nodes ≤ 65536 → L .place ≤ 2147483647 → Judged P R x y X
+        pub judged : L .nodes ≤ large .nodes → L .place ≤ farthest → Judged P R x y X
         judged nodes place = record {
           ready = record {
             tree = known .tree;

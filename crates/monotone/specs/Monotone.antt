@@ -6,7 +6,7 @@
 --   AllDirected P x y         == every pair has a direction. Of pairs the smaller node is first
 --   FirstTurn P x y u v       == (u, v) is the first pair that has none
 --   Says L .. r               == r is what the check answers
---   Checked L .. W X r        == the check's contract: its answer, and the work list, W at entry and X at exit
+--   Checked L .. W X r        == the check's contract; W and X are the work list at entry and at exit
 use mathlib.Core.Bool.{Bool, _||_}
 use mathlib.Core.List.{List, [], _∷_}
 use mathlib.Core.Logic.{_⊎_}
@@ -18,7 +18,7 @@ use lib.IntN.{ℤ}
 use lib.ListN.{length, getD}
 use Rattle.laws.specs.Search.{Refusal, refuseLeast, _orElse_}
 use Rattle.table.specs.Paths.{PathRises}
-use Rattle.table.specs.Table.{allLong, tableFault, Spared}
+use Rattle.table.specs.Table.{allLong, shapeFault, tableFault, Called}
 use Rattle.table.specs.declared.Limits.{Limits}
 use Rattle.monotone.specs.declared.Verdict.{Verdict}
 use Rattle.monotone.specs.declared.Verdict.the-variants.{Monotone, Turns, Refused}
@@ -40,7 +40,7 @@ beyond place x y v = ltb place (getD x v 0) || ltb place (getD y v 0)
 unfoldable pub checkFault : Limits → List ℕ → List ℕ → List ℕ → List ℕ → ℕ → Option Refusal
 checkFault L P R x y work =
     tableFault L P R (allLong (length P) (x ∷ y ∷ [])) work
-    orElse refuseLeast (L .beyond) (length P) (beyond (L .place) x y)
+    orElse refuseLeast (L .far) (length P) (beyond (L .place) x y)
 
 pub record AllDirected (P x y : List ℕ) : Type 0 where
   pub directed : (u v : ℕ) → u < v → v < length P → HasDirection P x y u v
@@ -58,6 +58,6 @@ module _ (L : Limits) (P R x y : List ℕ) (work : ℕ) where
   Says (Turns u v) = (checkFault L P R x y work ≡ none) × FirstTurn P x y u v
   Says (Refused k v) = checkFault L P R x y work ≡ some (record { number = k; node = v })
 
-pub record Checked (L : Limits) (P R x y W X : List ℕ) (r : Verdict) : Type 0 where
-  pub says : Says L P R x y (length W) r
-  pub spared : Spared L P R (allLong (length P) (x ∷ y ∷ [])) W X
+abbrev pub Checked : Limits → List ℕ → List ℕ → List ℕ → List ℕ → List ℕ → List ℕ → Verdict → Type 0
+Checked L P R x y W X r =
+    Called (shapeFault L P R (allLong (length P) (x ∷ y ∷ [])) (length W)) W X (Says L P R x y (length W) r)

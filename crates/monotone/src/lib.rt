@@ -12,7 +12,7 @@ ghost use Prim.Native.Nat.{ℕ, _+_, _-_, _*_, _≤_, _<_};
 ghost use lib.ListN.{length, getD, set};
 ghost use Rattle.laws.specs.Regions.{Only};
 ghost use Rattle.laws.specs.Search.{least};
-ghost use Rattle.table.specs.Table.{allLong, checked};
+ghost use Rattle.table.specs.Table.{allLong, large, checked, farthest};
 ghost use Rattle.table.specs.Work.{Zeroed};
 ghost use Rattle.monotone.specs.Monotone.{beyond, Checked};
 ghost use Rattle.monotone.specs.Plane.{cross, dot};
@@ -22,6 +22,7 @@ ghost use Rattle.monotone.specs.Cones.{vec, Small, Near, Moved, partAt, 
 ghost use Rattle.monotone.specs.Cones.{Grown};
 use table::Limits;
 use table::Validity;
+use table::checked_limits;
 use table::clear;
 use table::get;
 use table::number;
@@ -341,7 +342,7 @@ fn check_within(
     y: &[u32],
     work: &mut [u32],
 ) -> Verdict
-    requires { ⌜ (limits .nodes ≤ 65536) × (limits .place ≤ 2147483647) ⌝ }
+    requires { ⌜ (limits .nodes ≤ large .nodes) × (limits .place ≤ farthest) ⌝ }
     ensures { λ r. ⌜ Checked limits (now (parent .entry)) (now (rank .entry)) (now (x .entry)) (now (y .entry))
         (now (work .entry)) (now (work .exit)) r ⌝ }
 {
@@ -352,7 +353,7 @@ fn check_within(
         Validity::Accepted => {
             let v = too_far(limits.place, x, y);
             if v < n {
-                return Verdict::Refused(limits.beyond, v as u32);
+                return Verdict::Refused(limits.far, v as u32);
             }
             judge(parent, rank, x, y, work)
         }
@@ -365,11 +366,6 @@ pub fn check(parent: &[u32], rank: &[u32], x: &[u32], y: &[u32], work: &mut [u32
     ensures { λ r. ⌜ Checked checked (now (parent .entry)) (now (rank .entry)) (now (x .entry)) (now (y .entry))
         (now (work .entry)) (now (work .exit)) r ⌝ }
 {
-    let limits = Limits {
-        nodes: 4096,
-        surplus: 14,
-        place: 2147483647,
-        beyond: 15,
-    };
+    let limits = checked_limits();
     check_within(limits, parent, rank, x, y, work)
 }

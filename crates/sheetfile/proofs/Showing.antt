@@ -4,25 +4,26 @@ use mathlib.Core.Option.{none}
 use mathlib.Core.Path.{_≡_, refl, sym, ap, ap₂, subst, _∙_}
 use Prim.Native.Nat.{ℕ, _+_, _*_, _≤_}
 use native.Mathlib.Omega.{arith}
-use lib.ListN.{length}
+use lib.ListN.{length, length-replicate}
 use Rattle.laws.specs.Refusals.{orElse-second}
 use Rattle.laws.specs.SearchLaws.{length-tabulate}
 use Rattle.table.specs.Acceptance.{shape-fits}
 use Rattle.table.specs.declared.Limits.{Limits}
-use Rattle.table.specs.Table.{large, shapeFault, treeFault, tableFault}
+use Rattle.table.specs.Table.{large, shapeFault, treeFault, tableFault, printed}
 use Rattle.slopes.specs.declared.Rule.{Rule}
 use Rattle.slopes.specs.declared.Rule.the-variants.{Steep, Balanced}
 use Rattle.drawing.specs.declared.Framed.{Framed}
-use Rattle.drawing.specs.CallLaws.{settle-none}
-use Rattle.drawing.specs.Drawing.{Drawing, Outcome, lengthsFit, lent, fresh, freshPlaces, layout, Laid}
+use Rattle.laws.specs.Refusals.{settle-none}
+use Rattle.laws.specs.Search.{Outcome}
+use Rattle.drawing.specs.declared.Framed.the-variants as framed
+use Rattle.drawing.specs.Drawing.{Drawing, lengthsFit, lent, fresh, freshPlaces, frame, layout}
 use Rattle.drawing.specs.DrawingLaws.{all-three}
-use Rattle.treefile.specs.Bytes.{Read}
 use Rattle.treefile.specs.declared.Loaded.{Loaded}
-use Rattle.treefile.specs.TreeFile.{statedNodes}
+use Rattle.treefile.specs.TreeFile.{statedNodes, Read}
 use Rattle.text.specs.Text.{sheetOf, Appended}
 use Rattle.text.specs.TextLaws.{appended-is}
 use Rattle.text.specs.Writing.{placesOf, Lines}
-use Rattle.sheetfile.specs.SheetFile.{sheetLimits, placesOfTable, sheetText, lotsIn}
+use Rattle.sheetfile.specs.SheetFile.{placesOfTable, sheetText, lotsIn}
 use Rattle.sheetfile.specs.SheetFileLaws.{Opening, opening, parents-long, ranks-long, Taken, accepted-text}
 
 module _ {B X Y : List ℕ} (t : Taken B X Y) where
@@ -47,13 +48,21 @@ module _ {B X Y : List ℕ} (t : Taken B X Y) where
       }))
       ∙ ap₂ treeFault (t .parents) (t .ranks) ∙ opened .tree
 
-  pub drawn-fresh : {rule : Rule} {s u : Drawing} {W Z : List ℕ} {r : Framed} → Laid large X Y rule s W u Z r
+  pub drawn-fresh : (rule : Rule) (s : Drawing) {u : Drawing} (work : ℕ) {r : Framed}
+      → record { answer = r; left = u } ≡ layout large X Y rule s work
       → length (s .times) ≡ lotsIn (length B) → length (s .x) ≡ lotsIn (length B)
-      → length (s .y) ≡ lotsIn (length B) → length W ≡ 4 * lotsIn (length B) → u ≡ fresh X Y rule
+      → length (s .y) ≡ lotsIn (length B) → work ≡ 4 * lotsIn (length B) → u ≡ fresh X Y rule
   unfolding layout
-  drawn-fresh {rule} {s} {u} {W} l et ex ey ew =
-      ap (λ (o : Outcome). o .drawing)
-      (l .outcome ∙ settle-none s (fresh X Y rule) _ (fits-large s (length W) et ex ey ew))
+  drawn-fresh rule s work l et ex ey ew =
+      let new = fresh X Y rule in
+      ap (λ (o : Outcome Framed Drawing). o .left)
+      (l ∙ settle-none framed.Refused s (frame new) new _ (fits-large s work et ex ey ew))
+
+  -- a fresh drawing has as many times as there are lots
+  pub times-long : (rule : Rule) {u : Drawing} → u ≡ fresh X Y rule → length (u .times) ≡ lotsIn (length B)
+  unfolding fresh
+  times-long rule e =
+      ap (λ (d : Drawing). length (d .times)) e ∙ length-replicate (length X) 1 ∙ table-long ∙ sym (opened .lots)
 
   x-long : (rule : Rule) → length (fresh X Y rule .x) ≡ statedNodes B
   unfolding fresh freshPlaces
@@ -87,6 +96,6 @@ module _ {B X Y : List ℕ} (t : Taken B X Y) where
         ∙ sym (accepted-text t))
 
 -- the reader was called with the program's limits
-pub at-limits : {L : Limits} {B P R W X Y Z : List ℕ} {r : Loaded} → L ≡ sheetLimits → Read L B P R W X Y Z r
-    → Read sheetLimits B P R W X Y Z r
-at-limits {B = B} {P} {R} {W} {X} {Y} {Z} {r} e d = subst (λ (L : Limits). Read L B P R W X Y Z r) e d
+pub at-limits : {L : Limits} (B P R W : List ℕ) {X Y Z : List ℕ} {r : Loaded} → L ≡ printed → Read L B P R W X Y Z r
+    → Read printed B P R W X Y Z r
+at-limits B P R W {X} {Y} {Z} {r} e d = subst (λ (L : Limits). Read L B P R W X Y Z r) e d

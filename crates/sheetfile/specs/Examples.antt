@@ -13,7 +13,7 @@ use Rattle.treefile.specs.TreeFile.{wordAt, words, statedNodes, fileParents, fi
 use Rattle.treefile.specs.TreeFile.{bytesOf, allBytes, fileOf}
 use Rattle.text.specs.Text.{digits, decimal, field, space, newline, lotLine, lotLines, sheetWord, refusedWord}
 use Rattle.text.specs.Text.{sheetOf, refusalOf}
-use Rattle.sheetfile.specs.SheetFile.{fileFault, placesOfTable, reply, sheetText}
+use Rattle.sheetfile.specs.SheetFile.{fileFault, placesOfTable, textOf, sheetText}
 
 abbrev line : List ℕ → List ℕ
 line [] = []
@@ -26,10 +26,10 @@ pub five-text : sheetText (fileOf (0 ∷ 0 ∷ 0 ∷ 1 ∷ 1 ∷ []) (0 ∷ 0 �
 unfolding count least tabulate climb leads isChild children isChildAt childAt forest postorder place order postNumber
     strayParent badRank adrift treeFault levels levelsFor slopeAt edge sumUp pathSum freshPlaces fresh wordAt words
     statedNodes fileParents fileRanks openFault bytesOf allBytes fileOf digits decimal field lotLine lotLines sheetOf
-    fileFault placesOfTable reply sheetText
+    fileFault placesOfTable textOf sheetText
 five-text = refl
 
 -- REFUSED 16 0
 pub short-text : sheetText (5 ∷ 0 ∷ 0 ∷ []) ≡ refusedWord ++ (49 ∷ 54 ∷ space ∷ 48 ∷ newline ∷ [])
-unfolding wordAt statedNodes openFault digits decimal field refusalOf fileFault reply sheetText
+unfolding wordAt statedNodes openFault digits decimal field refusalOf fileFault textOf sheetText
 short-text = refl

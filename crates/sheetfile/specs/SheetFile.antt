@@ -1,30 +1,26 @@
 -- What the program `sheet` prints for a tree file (document 01, "Tree file and program").
 --
---   sheetLimits      == the program's limits: 14 in the place of 2, above 4,096 lots
 --   fileFault B      == the refusal of the file B, where there is one: 16, 1, 14, 17, then 4 to 7
 --   placesOfTable .. == the places of a table's fresh sheets under both rules
+--   textOf f B       == the text for the file B with refusal f, where there is one
 --   sheetText B      == the text for the file B, whatever its bytes
 --   lotsIn m         == how many lots a file of m bytes can hold, and at most 4,096
 use mathlib.Core.List.{List}
-use mathlib.Core.Option.{Option, none, some}
+use mathlib.Core.Option.{Option}
 use mathlib.Core.Path.{_≡_}
 use Prim.Native.Nat.{ℕ, _+_, _-_, _*_, _/_, _≤_, min}
 use lib.ListN.{length}
-use Rattle.laws.specs.Search.{Refusal, _orElse_}
-use Rattle.table.specs.declared.Limits.{Limits}
-use Rattle.table.specs.Table.{treeFault}
+use Rattle.laws.specs.Search.{Refusal, _orElse_, refusedOr}
+use Rattle.table.specs.Table.{treeFault, printed}
 use Rattle.slopes.specs.declared.Rule.the-variants.{Steep, Balanced}
 use Rattle.drawing.specs.Drawing.{fresh}
 use Rattle.treefile.specs.TreeFile.{statedNodes, fileParents, fileRanks, openFault}
 use Rattle.text.specs.Text.{Places, sheetOf, refusalOf}
 
-abbrev pub sheetLimits : Limits
-sheetLimits = record { nodes = 4096; surplus = 14; place = 2147483647; beyond = 11 }
-
 -- the program lends lists that fit the stated number of lots, so that 3 never applies
 unfoldable pub fileFault : List ℕ → Option Refusal
 fileFault B =
-    openFault sheetLimits B (statedNodes B) (statedNodes B) (4 * statedNodes B)
+    openFault printed B (statedNodes B) (statedNodes B) (4 * statedNodes B)
     orElse treeFault (fileParents B) (fileRanks B)
 
 unfoldable pub placesOfTable : List ℕ → List ℕ → Places
@@ -35,18 +31,17 @@ placesOfTable P R = record {
   balanced-y = fresh P R Balanced .y;
 }
 
-unfoldable pub reply : Option Refusal → List ℕ → List ℕ
-reply none B = sheetOf (placesOfTable (fileParents B) (fileRanks B)) (statedNodes B)
-reply (some f) B = refusalOf (f .number) (f .node)
+unfoldable pub textOf : Option Refusal → List ℕ → List ℕ
+textOf f B = refusedOr refusalOf f (sheetOf (placesOfTable (fileParents B) (fileRanks B)) (statedNodes B))
 
 unfoldable pub sheetText : List ℕ → List ℕ
-sheetText B = reply (fileFault B) B
+sheetText B = textOf (fileFault B) B
 
 ------------------------------------------------------------------------
 -- The lent lists
 
 unfoldable pub lotsIn : ℕ → ℕ
-lotsIn m = min ((m - 4) / 8) 4096
+lotsIn m = min ((m - 4) / 8) (printed .nodes)
 
 -- lists of exactly the lots that the file can hold, and room for the text
 pub record Fitting (B P R T x y u w W out : List ℕ) : Type 0 where

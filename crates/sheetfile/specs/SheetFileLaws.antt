@@ -19,14 +19,13 @@ use Rattle.laws.specs.Refusals.{refusal, some-not-none, orElse-first, orElse-se
 use Rattle.laws.specs.Refusals.{refuse-no, refuse-none}
 use Rattle.laws.specs.Search.{Refusal, refuse, _orElse_}
 use Rattle.laws.specs.SearchLaws.{length-tabulate}
-use Rattle.table.specs.Table.{treeFault}
-use Rattle.treefile.specs.Bytes.{Read}
+use Rattle.table.specs.Table.{treeFault, printed}
 use Rattle.treefile.specs.declared.Loaded.{Loaded}
 use Rattle.treefile.specs.declared.Loaded.the-variants.{Table, Refused}
 use Rattle.treefile.specs.TreeFile.{wordAt, words, statedNodes, fileParents, fileRanks, openFault, Lists, loaded}
-use Rattle.treefile.specs.TreeFile.{readTree}
+use Rattle.treefile.specs.TreeFile.{readTree, Read}
 use Rattle.text.specs.Text.{sheetOf, refusalOf}
-use Rattle.sheetfile.specs.SheetFile.{sheetLimits, fileFault, placesOfTable, reply, sheetText, lotsIn}
+use Rattle.sheetfile.specs.SheetFile.{fileFault, placesOfTable, textOf, sheetText, lotsIn}
 
 ------------------------------------------------------------------------
 -- The refusal
@@ -36,36 +35,36 @@ orElse-same none f = f refl
 orElse-same (some r) f = refl
 
 -- where 16, 1, 14 and 17 do not refuse, the length says how many lots there are
-lots-stated : (m n : ℕ) → m ≡ 4 + 8 * n → n ≤ 4096 → lotsIn m ≡ n
+lots-stated : (m n : ℕ) → m ≡ 4 + 8 * n → n ≤ printed .nodes → lotsIn m ≡ n
 unfolding lotsIn
 lots-stated m n e h = omega arith
 
 open-same : (B : List ℕ) (p r w : ℕ) → p ≡ lotsIn (length B) → r ≡ lotsIn (length B) → w ≡ 4 * lotsIn (length B)
-    → openFault sheetLimits B p r w ≡ openFault sheetLimits B (statedNodes B) (statedNodes B) (4 * statedNodes B)
+    → openFault printed B p r w ≡ openFault printed B (statedNodes B) (statedNodes B) (4 * statedNodes B)
 unfolding openFault
 open-same B p r w ep er ew =
     orElse-same (refuse (ltb (length B) 4) 16 0)
     (λ a. orElse-same (refuse (eqb (statedNodes B) 0) 1 0)
-    (λ b. orElse-same (refuse (ltb 4096 (statedNodes B)) 14 0)
+    (λ b. orElse-same (refuse (ltb (printed .nodes) (statedNodes B)) 14 0)
     (λ c. orElse-same (refuse (not (eqb (length B) (4 + 8 * statedNodes B))) 17 0)
     (λ d.
     let long : length B ≡ 4 + 8 * statedNodes B =
     eqb-true (length B) (4 + 8 * statedNodes B) (not-false _ (refuse-none _ 17 0 d)) in
-    let few : statedNodes B ≤ 4096 = ltb-false 4096 (statedNodes B) (refuse-none _ 14 0 c) in
+    let few : statedNodes B ≤ printed .nodes = ltb-false (printed .nodes) (statedNodes B) (refuse-none _ 14 0 c) in
     let lots : lotsIn (length B) ≡ statedNodes B = lots-stated (length B) (statedNodes B) long few in
     (λ i. refuse (not (eqb ((ep ∙ lots) i) (statedNodes B) && (eqb ((er ∙ lots) i) (statedNodes B)
     && eqb ((ew ∙ ap (λ (x : ℕ). 4 * x) lots) i) (4 * statedNodes B)))) 3 0)))))
 
 -- the refusal is the same with lists of the lots that the file can hold
 pub lent-same : (B : List ℕ) (p r w : ℕ) → p ≡ lotsIn (length B) → r ≡ lotsIn (length B) → w ≡ 4 * lotsIn (length B)
-    → openFault sheetLimits B p r w orElse treeFault (fileParents B) (fileRanks B) ≡ fileFault B
+    → openFault printed B p r w orElse treeFault (fileParents B) (fileRanks B) ≡ fileFault B
 unfolding fileFault
 lent-same B p r w ep er ew =
     ap (λ (f : Option Refusal). f orElse treeFault (fileParents B) (fileRanks B)) (open-same B p r w ep er ew)
 
 pub record Opening (B : List ℕ) : Type 0 where
   pub some : 0 < statedNodes B
-  pub few : statedNodes B ≤ 4096
+  pub few : statedNodes B ≤ printed .nodes
   pub long : length B ≡ 4 + 8 * statedNodes B
   pub lots : lotsIn (length B) ≡ statedNodes B
   pub tree : treeFault (fileParents B) (fileRanks B) ≡ none
@@ -76,11 +75,11 @@ opening B e =
     let z = orElse-none _ (treeFault (fileParents B) (fileRanks B)) e in
     let a = orElse-none (refuse (ltb (length B) 4) 16 0) _ (z .0) in
     let b = orElse-none (refuse (eqb (statedNodes B) 0) 1 0) _ (a .1) in
-    let c = orElse-none (refuse (ltb 4096 (statedNodes B)) 14 0) _ (b .1) in
+    let c = orElse-none (refuse (ltb (printed .nodes) (statedNodes B)) 14 0) _ (b .1) in
     let d = orElse-none (refuse (not (eqb (length B) (4 + 8 * statedNodes B))) 17 0) _ (c .1) in
     let long : length B ≡ 4 + 8 * statedNodes B =
     eqb-true (length B) (4 + 8 * statedNodes B) (not-false _ (refuse-none _ 17 0 (d .0))) in
-    let few : statedNodes B ≤ 4096 = ltb-false 4096 (statedNodes B) (refuse-none _ 14 0 (c .0)) in
+    let few : statedNodes B ≤ printed .nodes = ltb-false (printed .nodes) (statedNodes B) (refuse-none _ 14 0 (c .0)) in
     record {
       some = some-lot (statedNodes B) (eqb-false _ _ (refuse-none _ 1 0 (b .0)));
       few = few;
@@ -121,9 +120,9 @@ loaded-none : (B P R : List ℕ) → (loaded none B P R .parents ≡ fileParents
 unfolding loaded
 loaded-none B P R = (refl, refl)
 
-reply-refusal : (f : Option Refusal) (B : List ℕ) {k v : ℕ} → f ≡ refusal k v → reply f B ≡ refusalOf k v
-unfolding reply
-reply-refusal f B e = ap (λ (g : Option Refusal). reply g B) e
+text-refusal : (f : Option Refusal) (B : List ℕ) {k v : ℕ} → f ≡ refusal k v → textOf f B ≡ refusalOf k v
+unfolding textOf
+text-refusal f B e = ap (λ (g : Option Refusal). textOf g B) e
 
 -- what the reader leaves where it accepts
 pub record Taken (B X Y : List ℕ) : Type 0 where
@@ -131,19 +130,19 @@ pub record Taken (B X Y : List ℕ) : Type 0 where
   pub parents : X ≡ fileParents B
   pub ranks : Y ≡ fileRanks B
 
-module _ {B P R W X Y Z : List ℕ} {r : Loaded} (d : Read sheetLimits B P R W X Y Z r)
+module _ (B P R W : List ℕ) {X Y Z : List ℕ} {r : Loaded} (d : Read printed B P R W X Y Z r)
     (ep : length P ≡ lotsIn (length B))
     (er : length R ≡ lotsIn (length B)) (ew : length W ≡ 4 * lotsIn (length B)) where
   answered : record { answer = r; parents = X; ranks = Y } ≡ loaded (fileFault B) B P R
   unfolding readTree
   answered =
-      d .outcome
+      d .says
       ∙ ap (λ (f : Option Refusal). loaded f B P R) (lent-same B (length P) (length R) (length W) ep er ew)
 
   pub refused-text : {k v : ℕ} → r ≡ Refused k v → sheetText B ≡ refusalOf k v
   unfolding sheetText
   refused-text e =
-      reply-refusal (fileFault B) B
+      text-refusal (fileFault B) B
       (loaded-refused (fileFault B) B P R (sym (ap (λ (l : Lists). l .answer) answered) ∙ e))
 
   pub taken : {k : ℕ} → r ≡ Table k → Taken B X Y
@@ -159,36 +158,36 @@ module _ {B P R W X Y Z : List ℕ} {r : Loaded} (d : Read sheetLimits B P R W X
 
 -- the text of an accepted file
 pub accepted-text : {B X Y : List ℕ} → Taken B X Y → sheetText B ≡ sheetOf (placesOfTable X Y) (statedNodes B)
-unfolding sheetText reply
+unfolding sheetText textOf
 accepted-text {B} t =
-    ap (λ (f : Option Refusal). reply f B) (t .fault)
+    ap (λ (f : Option Refusal). textOf f B) (t .fault)
     ∙ (λ i. sheetOf (placesOfTable (sym (t .parents) i) (sym (t .ranks) i)) (statedNodes B))
 
 ------------------------------------------------------------------------
 -- Beyond the longest accepted file
 
 abbrev pub longest : ℕ
-longest = 4 + 8 * 4096
+longest = 4 + 8 * printed .nodes
 
 -- a longer file is refused by what it states
 unfoldable longFault : ℕ → Option Refusal
-longFault n = refuse (eqb n 0) 1 0 orElse refuse (ltb 4096 n) 14 0 orElse refusal 17 0
+longFault n = refuse (eqb n 0) 1 0 orElse refuse (ltb (printed .nodes) n) 14 0 orElse refusal 17 0
 
 long-refused : (n : ℕ) → longFault n ≡ none → ⊥
 unfolding longFault
 long-refused n e =
     let a = orElse-none (refuse (eqb n 0) 1 0) _ e in
-    some-not-none (orElse-none (refuse (ltb 4096 n) 14 0) _ (a .1) .1)
+    some-not-none (orElse-none (refuse (ltb (printed .nodes) n) 14 0) _ (a .1) .1)
 
 long-open : (B : List ℕ) → longest < length B
-    → openFault sheetLimits B (statedNodes B) (statedNodes B) (4 * statedNodes B) ≡ longFault (statedNodes B)
+    → openFault printed B (statedNodes B) (statedNodes B) (4 * statedNodes B) ≡ longFault (statedNodes B)
 unfolding openFault longFault
 long-open B h =
     orElse-second (refuse (ltb (length B) 4) 16 0) _ (refuse-no _ 16 0 (le-ltb (length B) 4 (omega arith)))
     ∙ orElse-same (refuse (eqb (statedNodes B) 0) 1 0)
-    (λ a. orElse-same (refuse (ltb 4096 (statedNodes B)) 14 0)
+    (λ a. orElse-same (refuse (ltb (printed .nodes) (statedNodes B)) 14 0)
     (λ b.
-    let few : statedNodes B ≤ 4096 = ltb-false 4096 (statedNodes B) (refuse-none _ 14 0 b) in
+    let few : statedNodes B ≤ printed .nodes = ltb-false (printed .nodes) (statedNodes B) (refuse-none _ 14 0 b) in
     orElse-first _ _ (refuse-yes _ 17 0
     (ap not (ne-eqb (length B) (4 + 8 * statedNodes B) (λ e. omega arith))))))
 
@@ -202,19 +201,19 @@ long-fault B h =
     kept none g ne = absurd (ne refl)
     kept (some r) g ne = refl
 
-reply-any : (f : Option Refusal) (B C : List ℕ) → (f ≡ none → ⊥) → reply f B ≡ reply f C
-unfolding reply
-reply-any none B C ne = absurd (ne refl)
-reply-any (some r) B C ne = refl
+text-any : (f : Option Refusal) (B C : List ℕ) → (f ≡ none → ⊥) → textOf f B ≡ textOf f C
+unfolding textOf
+text-any none B C ne = absurd (ne refl)
+text-any (some r) B C ne = refl
 
 -- two such files that state the same number of lots get the same text
 long-same : (B C : List ℕ) → longest < length B → longest < length C → statedNodes B ≡ statedNodes C
     → sheetText B ≡ sheetText C
 unfolding sheetText
 long-same B C b c e =
-    ap (λ (f : Option Refusal). reply f B) (long-fault B b ∙ ap longFault e)
-    ∙ reply-any (longFault (statedNodes C)) B C (long-refused (statedNodes C))
-    ∙ sym (ap (λ (f : Option Refusal). reply f C) (long-fault C c))
+    ap (λ (f : Option Refusal). textOf f B) (long-fault B b ∙ ap longFault e)
+    ∙ text-any (longFault (statedNodes C)) B C (long-refused (statedNodes C))
+    ∙ sym (ap (λ (f : Option Refusal). textOf f C) (long-fault C c))
 
 -- a file cut one byte after the longest accepted length gives the same text
 pub cut-same : (B : List ℕ) → longest < length B → sheetText (take (longest + 1) B) ≡ sheetText B

@@ -1,7 +1,7 @@
 // From a tree file's bytes to the text that the program `sheet` prints.
 use drawing::layout;
 use slopes::Rule;
-use table::Limits;
+use table::printed_limits;
 use text::put_refusal;
 use text::put_sheet;
 use treefile::Loaded;
@@ -9,19 +9,7 @@ use treefile::read_tree_within;
 ghost use mathlib.Core.Path.{_≡_};
 ghost use lib.ListN.{length};
 ghost use Rattle.text.specs.Text.{Appended};
-ghost use Rattle.sheetfile.specs.SheetFile.{sheetLimits, lotsIn, sheetText, Fitting, Ample};
-
-// The program's limits.
-fn sheet_limits() -> Limits
-    ensures { λ r. ⌜ r ≡ sheetLimits ⌝ }
-{
-    Limits {
-        nodes: 4096,
-        surplus: 14,
-        place: 2147483647,
-        beyond: 11,
-    }
-}
+ghost use Rattle.sheetfile.specs.SheetFile.{lotsIn, sheetText, Fitting, Ample};
 
 // How many lots the file can hold, and at most 4,096.
 fn lots_in(bytes: &[u8]) -> usize
@@ -51,7 +39,7 @@ fn fitted_text(
         (now out) ⌝ }
     ensures { λ r. ⌜ Appended (now (out .entry)) (now (out .exit)) 0 r (sheetText (now (bytes .entry))) ⌝ }
 {
-    let limits = sheet_limits();
+    let limits = printed_limits();
     match read_tree_within(limits, bytes, parent, rank, work) {
         Loaded::Refused(number, lot) => put_refusal(out, number, lot),
         Loaded::Table(_) => {

@@ -18,10 +18,10 @@ use Rattle.table.specs.declared.Validity.{Validity}
 use Rattle.table.specs.declared.Validity.the-variants.{Accepted, Refused}
 use Rattle.table.specs.Table.{tableFault}
 use Rattle.table.specs.Work.{Validated}
-use Rattle.treefile.specs.Bytes.{WordPut, Encoded, Wrote}
+use Rattle.treefile.specs.Bytes.{WordPut, Encoded}
 use Rattle.treefile.specs.declared.Saved.the-variants.{Bytes, Unsaved}
 use Rattle.treefile.specs.FileLaws.{by-four, length-allBytes, byte-at}
-use Rattle.treefile.specs.TreeFile.{bytesOf, allBytes, fileOf, saved, writeTree}
+use Rattle.treefile.specs.TreeFile.{bytesOf, allBytes, fileOf, saved, writeTree, Wrote}
 
 pub word-put : (B : List ℕ) (i w : ℕ) → i + 3 < length B
     → WordPut B (set (set (set (set B i (w % 256)) (i + 1) (w / 256 % 256)) (i + 2) (w / 65536 % 256)) (i + 3)
@@ -164,9 +164,10 @@ module _ {L : Limits} {P R W X : List ℕ} {v : Validity} (c : Validated L P R t
   pub wrote-refused : (B : List ℕ) {k u : ℕ} → v ≡ Refused k u → Wrote L P R B W B X (Unsaved k u)
   unfolding writeTree saved
   wrote-refused B {k} {u} e = record {
-    outcome = sym (ap (λ (f : Option Refusal). saved f P R B)
+    says = sym (ap (λ (f : Option Refusal). saved f P R B)
         (orElse-first _ _ (validity-refused _ k u (sym (c .answer) ∙ e))));
     spared = c .spared;
+    long = c .kept .long;
   }
 
   module _ (e : v ≡ Accepted) where
@@ -179,18 +180,20 @@ module _ {L : Limits} {P R W X : List ℕ} {v : Validity} (c : Validated L P R t
     pub wrote-17 : (B : List ℕ) → (length B ≡ 4 + 8 * length P → ⊥) → Wrote L P R B W B X (Unsaved 17 0)
     unfolding writeTree saved
     wrote-17 B ne = record {
-      outcome = sym (ap (λ (f : Option Refusal). saved f P R B) (orElse-second _ _ no-fault
+      says = sym (ap (λ (f : Option Refusal). saved f P R B) (orElse-second _ _ no-fault
           ∙ refuse-yes _ 17 0 (ap not (ne-eqb (length B) (4 + 8 * length P) ne))));
       spared = c .spared;
+      long = c .kept .long;
     }
 
     pub wrote-file : (B C : List ℕ) → length B ≡ 4 + 8 * length P → C ≡ fileOf P R
         → Wrote L P R B W C X (Bytes (4 + 8 * length P))
     unfolding writeTree saved
     wrote-file B C long is = record {
-      outcome =
+      says =
           (λ i. record { answer = Bytes (4 + 8 * length P); bytes = is i })
           ∙ sym (ap (λ (f : Option Refusal). saved f P R B) (orElse-second _ _ no-fault
           ∙ refuse-no _ 17 0 (ap not (eq-eqb (length B) (4 + 8 * length P) long))));
       spared = c .spared;
+      long = c .kept .long;
     }

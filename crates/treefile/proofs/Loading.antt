@@ -16,7 +16,7 @@ use Rattle.table.specs.declared.Validity.{Validity}
 use Rattle.table.specs.declared.Validity.the-variants.{Accepted}
 use Rattle.table.specs.Table.{treeFault, tableFault}
 use Rattle.table.specs.Work.{Validated}
-use Rattle.treefile.specs.Bytes.{Copied, Opened, Checked}
+use Rattle.treefile.specs.Bytes.{Copied, Opened, Tabled}
 use Rattle.treefile.specs.declared.Loaded.the-variants.{Table, Refused}
 use Rattle.treefile.specs.TreeFile.{wordAt, words, fileParents, fileRanks, loaded}
 use Rattle.treefile.proofs.Copies.{restored}
@@ -61,7 +61,7 @@ module _ {L : Limits} {B P R W W₁ W₂ : List ℕ} (o : Opened L B P R W)
       unfolding tableFault
       fault-is = orElse-second _ _ (shape-fits shape) ∙ ap₂ treeFault parents-are ranks-are
 
-      pub loaded-accepted : v ≡ Accepted → Checked B P R P₁ R₁ (Table (length P))
+      pub loaded-accepted : v ≡ Accepted → Tabled B P R P₁ R₁ (Table (length P))
       unfolding loaded
       loaded-accepted e = record {
         outcome =
@@ -92,7 +92,7 @@ module _ {L : Limits} {B P R W W₁ W₂ : List ℕ} (o : Opened L B P R W)
             restored (t .0) (λ i l. still (3 * length P + i) (omega arith)) (y .0) (y .1 ∙ ranks-long ∙ sym (o .ranks))
 
         pub loaded-refused : {k u : ℕ} → v ≡ Rattle.table.specs.declared.Validity.the-variants.Refused k u
-            → Checked B P R P₂ R₂ (Refused k u)
+            → Tabled B P R P₂ R₂ (Refused k u)
         unfolding loaded
         loaded-refused {k} {u} e = record {
           outcome =

@@ -12,16 +12,17 @@ use Rattle.laws.specs.Refusals.{refusal, some-not-none, orElse-first, orElse-se
 use Rattle.laws.specs.Search.{Refusal, refuse}
 use Rattle.laws.specs.Tests.{both-is}
 use Rattle.table.specs.declared.Limits.{Limits}
-use Rattle.treefile.specs.Bytes.{Opened, Checked, Read}
+use Rattle.treefile.specs.Bytes.{Opened, Tabled}
 use Rattle.treefile.specs.declared.Loaded.{Loaded}
 use Rattle.treefile.specs.declared.Loaded.the-variants.{Refused}
-use Rattle.treefile.specs.TreeFile.{wordAt, statedNodes, openFault, loaded, readTree}
+use Rattle.treefile.specs.TreeFile.{wordAt, statedNodes, openFault, loaded, readTree, Read}
 
 module _ (L : Limits) (B P R W : List ℕ) where
   shut : {k v : ℕ} → openFault L B (length P) (length R) (length W) ≡ refusal k v → Read L B P R W P R W (Refused k v)
   unfolding readTree loaded
   shut e = record {
-    outcome = sym (ap (λ (f : Option Refusal). loaded f B P R) (orElse-first _ _ e));
+    says = sym (ap (λ (f : Option Refusal). loaded f B P R) (orElse-first _ _ e));
+    long = refl;
     spared = λ f h. refl;
   }
 
@@ -46,15 +47,15 @@ module _ (L : Limits) (B P R W : List ℕ) where
       no-1 : refuse (eqb (statedNodes B) 0) 1 0 ≡ none
       no-1 = refuse-no _ 1 0 (ne-eqb (statedNodes B) 0 (λ e. h1 (sym stated ∙ e)))
 
-      pub refused-2 : L .nodes < n → Read L B P R W P R W (Refused (L .surplus) 0)
+      pub refused-2 : L .nodes < n → Read L B P R W P R W (Refused (L .many) 0)
       unfolding openFault
       refused-2 h =
           shut (orElse-second _ _ no-16 ∙ orElse-second _ _ no-1
-          ∙ orElse-first _ _ (refuse-yes _ (L .surplus) 0 (lt-ltb (L .nodes) (statedNodes B) (omega (arith, stated)))))
+          ∙ orElse-first _ _ (refuse-yes _ (L .many) 0 (lt-ltb (L .nodes) (statedNodes B) (omega (arith, stated)))))
 
       module _ (h2 : n ≤ L .nodes) where
-        no-2 : refuse (ltb (L .nodes) (statedNodes B)) (L .surplus) 0 ≡ none
-        no-2 = refuse-no _ (L .surplus) 0 (le-ltb (L .nodes) (statedNodes B) (omega (arith, stated)))
+        no-2 : refuse (ltb (L .nodes) (statedNodes B)) (L .many) 0 ≡ none
+        no-2 = refuse-no _ (L .many) 0 (le-ltb (L .nodes) (statedNodes B) (omega (arith, stated)))
 
         pub refused-17 : (length B ≡ 4 + 8 * n → ⊥) → Read L B P R W P R W (Refused 17 0)
         unfolding openFault
@@ -112,9 +113,11 @@ module _ (L : Limits) (B P R W : List ℕ) where
                 (both-is (eq-eqb (length R) (statedNodes B) (r ∙ sym stated))
                 (eq-eqb (length W) (4 * statedNodes B) (w ∙ ap (λ (x : ℕ). 4 * x) (sym stated))))))
 
-            pub read : {X Y Z : List ℕ} {a : Loaded} → Checked B P R X Y a → Read L B P R W X Y Z a
+            pub read : {X Y Z : List ℕ} {a : Loaded} → length Z ≡ length W → Tabled B P R X Y a
+                → Read L B P R W X Y Z a
             unfolding readTree
-            read c = record {
-              outcome = c .outcome ∙ sym (ap (λ (f : Option Refusal). loaded f B P R) (orElse-second _ _ fits));
+            read same c = record {
+              long = same;
+              says = c .outcome ∙ sym (ap (λ (f : Option Refusal). loaded f B P R) (orElse-second _ _ fits));
               spared = λ f h. absurd (some-not-none (sym h ∙ fits));
             }

@@ -3,22 +3,16 @@
 --   Copied l W at        == W holds the list l from `at` on
 --   Opened L B P R W     == what refusals 16, 1, 2, 17 and 3 leave
 --   WordPut, Encoded     == a number's, and a list's, bytes stand from a place on
---   Read L B P R W ..    == the reader's contract: its reply and the lists at exit are those of the definition
---   Wrote L P R B W ..   == the writer's contract
-use mathlib.Core.Bool.{true}
+--   Tabled B P R X Y r   == the answer r to an opened file, and the lists at exit
 use mathlib.Core.List.{List}
-use mathlib.Core.Option.{some}
 use mathlib.Core.Path.{_≡_}
 use Prim.Native.Nat.{ℕ, _+_, _*_, _^_, _≤_, _<_}
 use lib.ListN.{length, getD}
 use Rattle.laws.specs.Regions.{Only}
-use Rattle.laws.specs.Search.{Refusal}
 use Rattle.table.specs.declared.Limits.{Limits}
-use Rattle.table.specs.Table.{shapeFault, treeFault}
+use Rattle.table.specs.Table.{treeFault}
 use Rattle.treefile.specs.declared.Loaded.{Loaded}
-use Rattle.treefile.specs.declared.Saved.{Saved}
-use Rattle.treefile.specs.TreeFile.{bytesOf, statedNodes, fileParents, fileRanks, openFault, loaded, readTree}
-use Rattle.treefile.specs.TreeFile.{writeTree}
+use Rattle.treefile.specs.TreeFile.{bytesOf, statedNodes, fileParents, fileRanks, loaded}
 
 pub record Copied (l W : List ℕ) (at : ℕ) : Type 0 where
   pub same : (i : ℕ) → i < length l → getD W (at + i) 0 ≡ getD l i 0
@@ -42,14 +36,5 @@ pub record Opened (L : Limits) (B P R W : List ℕ) : Type 0 where
   pub ranks : length R ≡ length P
   pub work : length W ≡ 4 * length P
 
--- the reply r and the lists at exit
-pub record Checked (B P R : List ℕ) (X Y : List ℕ) (r : Loaded) : Type 0 where
+pub record Tabled (B P R : List ℕ) (X Y : List ℕ) (r : Loaded) : Type 0 where
   pub outcome : record { answer = r; parents = X; ranks = Y } ≡ loaded (treeFault (fileParents B) (fileRanks B)) B P R
-
-pub record Read (L : Limits) (B P R W X Y Z : List ℕ) (r : Loaded) : Type 0 where
-  pub outcome : record { answer = r; parents = X; ranks = Y } ≡ readTree L B P R (length W)
-  pub spared : (f : Refusal) → openFault L B (length P) (length R) (length W) ≡ some f → Z ≡ W
-
-pub record Wrote (L : Limits) (P R B W C X : List ℕ) (r : Saved) : Type 0 where
-  pub outcome : record { answer = r; bytes = C } ≡ writeTree L P R B (length W)
-  pub spared : (f : Refusal) → shapeFault L P R true (length W) ≡ some f → X ≡ W

@@ -225,7 +225,7 @@ unfolding openFault
 file-long L B p r work e =
     let a = orElse-none (refuse (ltb (length B) 4) 16 0) _ e in
     let b = orElse-none (refuse (eqb (statedNodes B) 0) 1 0) _ (a .1) in
-    let c = orElse-none (refuse (ltb (L .nodes) (statedNodes B)) (L .surplus) 0) _ (b .1) in
+    let c = orElse-none (refuse (ltb (L .nodes) (statedNodes B)) (L .many) 0) _ (b .1) in
     let d = orElse-none (refuse (not (eqb (length B) (4 + 8 * statedNodes B))) 17 0) _ (c .1) in
     eqb-true (length B) (4 + 8 * statedNodes B) (not-false _ (refuse-none _ 17 0 (d .0)))
 
@@ -248,7 +248,7 @@ read-written L P R work e few p r X Y ex ey =
     let fits : openFault L (fileOf P R) (length X) (length Y) work ≡ none =
     orElse-second _ _ (refuse-no _ 16 0 (le-ltb (length (fileOf P R)) 4 (omega arith)))
     ∙ orElse-second _ _ (refuse-no _ 1 0 (ne-eqb (statedNodes (fileOf P R)) 0 (λ z. omega arith)))
-    ∙ orElse-second _ _ (refuse-no _ (L .surplus) 0
+    ∙ orElse-second _ _ (refuse-no _ (L .many) 0
     (le-ltb (L .nodes) (statedNodes (fileOf P R)) (omega arith)))
     ∙ orElse-second _ _ (refuse-no _ 17 0
     (ap not (eq-eqb (length (fileOf P R)) (4 + 8 * statedNodes (fileOf P R)) (omega arith))))

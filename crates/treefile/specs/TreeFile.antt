@@ -11,15 +11,17 @@
 --   openFault L ..         == refusals 16, 1, 2, 17 and 3, which leave the work list alone
 --   readTree L ..          == the reader: what it answers, and the two lists that it leaves
 --   writeTree L ..         == the writer: what it answers, and the bytes that it leaves
+--   Read, Wrote            == their contracts
 use mathlib.Core.Bool.{true, cond, not, _&&_}
 use mathlib.Core.List.{List, [], _∷_, _++_}
-use mathlib.Core.Option.{Option, none, some}
+use mathlib.Core.Option.{Option}
+use mathlib.Core.Path.{_≡_}
 use Prim.Native.Nat.{ℕ, _+_, _*_, _/_, _%_}
 use lib.Dec.{ltb, eqb}
 use lib.ListN.{length, getD}
-use Rattle.laws.specs.Search.{tabulate, Refusal, refuse, _orElse_}
+use Rattle.laws.specs.Search.{tabulate, Refusal, refuse, _orElse_, refusedOr}
 use Rattle.table.specs.declared.Limits.{Limits}
-use Rattle.table.specs.Table.{treeFault, tableFault}
+use Rattle.table.specs.Table.{shapeFault, treeFault, tableFault, Called}
 use Rattle.treefile.specs.declared.Loaded.{Loaded}
 use Rattle.treefile.specs.declared.Loaded.the-variants.{Table, Refused}
 use Rattle.treefile.specs.declared.Saved.{Saved}
@@ -67,7 +69,7 @@ unfoldable pub openFault : Limits → List ℕ → ℕ → ℕ → ℕ → Optio
 openFault L B parents ranks work =
     refuse (ltb (length B) 4) 16 0
     orElse refuse (eqb (statedNodes B) 0) 1 0
-    orElse refuse (ltb (L .nodes) (statedNodes B)) (L .surplus) 0
+    orElse refuse (ltb (L .nodes) (statedNodes B)) (L .many) 0
     orElse refuse (not (eqb (length B) (4 + 8 * statedNodes B))) 17 0
     orElse refuse (not (eqb parents (statedNodes B) && (eqb ranks (statedNodes B) && eqb work (4 * statedNodes B)))) 3 0
 
@@ -77,8 +79,9 @@ pub record Lists : Type 0 where
   pub ranks : List ℕ
 
 unfoldable pub loaded : Option Refusal → List ℕ → List ℕ → List ℕ → Lists
-loaded none B P R = record { answer = Table (statedNodes B); parents = fileParents B; ranks = fileRanks B }
-loaded (some f) B P R = record { answer = Refused (f .number) (f .node); parents = P; ranks = R }
+loaded f B P R =
+    refusedOr (λ k v. record { answer = Refused k v; parents = P; ranks = R }) f
+    (record { answer = Table (statedNodes B); parents = fileParents B; ranks = fileRanks B })
 
 unfoldable pub readTree : Limits → List ℕ → List ℕ → List ℕ → ℕ → Lists
 readTree L B P R work =
@@ -92,9 +95,23 @@ pub record Written : Type 0 where
   pub bytes : List ℕ
 
 unfoldable pub saved : Option Refusal → List ℕ → List ℕ → List ℕ → Written
-saved none P R B = record { answer = Bytes (4 + 8 * length P); bytes = fileOf P R }
-saved (some f) P R B = record { answer = Unsaved (f .number) (f .node); bytes = B }
+saved f P R B =
+    refusedOr (λ k v. record { answer = Unsaved k v; bytes = B }) f
+    (record { answer = Bytes (4 + 8 * length P); bytes = fileOf P R })
 
 unfoldable pub writeTree : Limits → List ℕ → List ℕ → List ℕ → ℕ → Written
 writeTree L P R B work =
     saved (tableFault L P R true work orElse refuse (not (eqb (length B) (4 + 8 * length P))) 17 0) P R B
+
+------------------------------------------------------------------------
+-- The contracts: W and Z are the work list at entry and at exit, the other lists are P, R and B at entry, X, Y and C at
+-- exit
+
+abbrev pub Read : Limits → List ℕ → List ℕ → List ℕ → List ℕ → List ℕ → List ℕ → List ℕ → Loaded → Type 0
+Read L B P R W X Y Z r =
+    Called (openFault L B (length P) (length R) (length W)) W Z
+    (record { answer = r; parents = X; ranks = Y } ≡ readTree L B P R (length W))
+
+abbrev pub Wrote : Limits → List ℕ → List ℕ → List ℕ → List ℕ → List ℕ → List ℕ → Saved → Type 0
+Wrote L P R B W C Z r =
+    Called (shapeFault L P R true (length W)) W Z (record { answer = r; bytes = C } ≡ writeTree L P R B (length W))

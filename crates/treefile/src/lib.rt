@@ -6,8 +6,8 @@ ghost use Prim.Native.Nat.{_+_, _*_, _^_, _≤_, _<_};
 ghost use lib.ListN.{length, getD};
 ghost use Rattle.laws.specs.Regions.{Only};
 ghost use Rattle.table.specs.Table.{large};
-ghost use Rattle.treefile.specs.Bytes.{Copied, Opened, Checked, Read, WordPut, Encoded, Wrote};
-ghost use Rattle.treefile.specs.TreeFile.{wordAt, words, statedOrZero};
+ghost use Rattle.treefile.specs.Bytes.{Copied, Opened, Tabled, WordPut, Encoded};
+ghost use Rattle.treefile.specs.TreeFile.{wordAt, words, statedOrZero, Read, Wrote};
 
 // What the reader answers: the number of nodes, or a refusal with its number and node.
 pub enum Loaded {
@@ -104,7 +104,7 @@ fn load(
     work: &mut [u32],
 ) -> Loaded
     requires { ⌜ Opened limits (now bytes) (now parent) (now rank) (now work) ⌝ }
-    ensures { λ r. ⌜ Checked (now (bytes .entry)) (now (parent .entry)) (now (rank .entry)) (now (parent .exit))
+    ensures { λ r. ⌜ Tabled (now (bytes .entry)) (now (parent .entry)) (now (rank .entry)) (now (parent .exit))
         (now (rank .exit)) r ⌝ }
 {
     let n = parent.len();
@@ -143,7 +143,7 @@ pub fn read_tree_within(
         return Loaded::Refused(1, 0);
     }
     if most < n {
-        return Loaded::Refused(limits.surplus, 0);
+        return Loaded::Refused(limits.many, 0);
     }
     if bytes.len() != 4 + 8 * n {
         return Loaded::Refused(17, 0);

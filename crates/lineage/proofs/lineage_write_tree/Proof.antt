@@ -13,7 +13,7 @@ returns c = (c .if1 .taken, refl, (refl, refl))
 put-saved-requires : tie.Need-put-saved-requires
 put-saved-requires c κs =
     let called = c .before .before .before .before .before in
-    (called .before .before .before .if1 .left, written-short (called .write-tree .ensures))
+    (called .before .before .before .if1 .left, written-short _ _ _ _ (called .write-tree .ensures))
 
 returns-2 : tie.Need-returns-2
 unfolding Exported

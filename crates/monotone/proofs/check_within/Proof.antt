@@ -58,7 +58,7 @@ returns c =
     let told = c .before .before in
     let at = start (checked told) .args in
     checked-far (at .x .now) (at .y .now) (same (checked told)) (accepted told) (c .before .too-far .ensures)
-    (c .if1 .taken)
+    (search needs) (c .if1 .taken)
 
 judge-requires : tie.Need-judge-requires
 judge-requires c κs =
@@ -82,7 +82,7 @@ returns-3 c =
     let told = test .before .before in
     let at = start (checked told) .args in
     checked-found (at .x .now) (at .y .now) (same (checked told)) (accepted told) (test .before .too-far .ensures)
-    (test .if1 .left) (found .judge .result) (found .judge .ensures)
+    (test .if1 .left) (search needs) (found .judge .result) (found .judge .ensures)
 
 pub check-within-spec : {M : Type 1} → statement M
 check-within-spec = tie.close (tie.spec (λ c κs. search needs) (λ c κs. search needs) (λ c. search needs)

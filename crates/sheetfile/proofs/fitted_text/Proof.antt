@@ -2,7 +2,7 @@
 use mathlib.Core.Path.{sym, _∙_}
 use Rattle.text.specs.TextLaws.{appended-is}
 use Rattle.sheetfile.specs.SheetFileLaws.{refused-text, taken}
-use Rattle.sheetfile.proofs.Showing.{drawn-fresh, both-lines, both-shown, at-limits}
+use Rattle.sheetfile.proofs.Showing.{drawn-fresh, times-long, both-lines, both-shown, at-limits}
 use borrow.Author.Needs.{needs}
 use Rattle.sheetfile.proofs.fitted_text.Statement.{statement}
 use Rattle.sheetfile.proofs.fitted_text.Tie as tie
@@ -12,7 +12,7 @@ use Rattle.sheetfile.proofs.fitted_text.Tie as tie
 
 -- once the file is read
 module _ (c : tie.After-read-tree-within) where
-  abbrev limits : tie.After-sheet-limits
+  abbrev limits : tie.After-printed-limits
   limits = c .before .before .before .before
 
   abbrev start : tie.Start
@@ -43,15 +43,15 @@ put-sheet-requires c κs =
     let second = laid c in
     let file = reading second in
     let given = start file .pre in
-    let work = file .read-tree-within .kept .1 .1 .1 .1 .0 ∙ given .work in
+    let work = file .read-tree-within .ensures .long ∙ given .work in
     let table =
-    taken (at-limits (limits file .sheet-limits .ensures) (file .read-tree-within .ensures)) (given .parent)
+    taken _ _ _ _ (at-limits _ _ _ _ (limits file .printed-limits .ensures) (file .read-tree-within .ensures)) (given .parent)
     (given .rank) (given .work) (accepted second .enum-told .given .1) in
     let steep =
-    drawn-fresh table (first second .layout .ensures) (given .times) (given .steep-x) (given .steep-y) work in
+    drawn-fresh table _ _ _ (first second .layout .ensures .says) (given .times) (given .steep-x) (given .steep-y) work in
     let balanced =
-    drawn-fresh table (second .layout2 .ensures) (first second .layout .kept .1 .1 .1 .0 ∙ given .times)
-    (given .balanced-x) (given .balanced-y) (first second .layout .kept .1 .1 .1 .1 .1 .1 .0 ∙ work) in
+    drawn-fresh table _ _ _ (second .layout2 .ensures .says) (times-long table _ steep) (given .balanced-x)
+    (given .balanced-y) (first second .layout .ensures .long ∙ work) in
     both-lines table steep balanced (given .room)
 
 returns : tie.Need-returns
@@ -61,7 +61,7 @@ returns c =
     let file = refused .before .before .before .before .before .before .before .before in
     let given = start file .pre in
     appended-is (written .put-refusal .ensures)
-    (sym (refused-text (at-limits (limits file .sheet-limits .ensures) (file .read-tree-within .ensures))
+    (sym (refused-text _ _ _ _ (at-limits _ _ _ _ (limits file .printed-limits .ensures) (file .read-tree-within .ensures))
     (given .parent) (given .rank) (given .work) (refused .number .given .1)))
 
 same-length-5 : tie.Need-same-length-5
@@ -73,8 +73,7 @@ same-length-6 c = reading (laid (c .before .before .before)) .read-tree-within .
 same-length-12 : tie.Need-same-length-12
 same-length-12 c =
     let second = laid (c .before .before .before) in
-    second .layout2 .kept .1 .1 .1 .1 .1 .1 .0 ∙ first second .layout .kept .1 .1 .1 .1 .1 .1 .0
-    ∙ reading second .read-tree-within .kept .1 .1 .1 .1 .0
+    second .layout2 .ensures .long ∙ first second .layout .ensures .long ∙ reading second .read-tree-within .ensures .long
 
 returns-2 : tie.Need-returns-2
 returns-2 c =
@@ -82,15 +81,15 @@ returns-2 c =
     let second = laid (written .before) in
     let file = reading second in
     let given = start file .pre in
-    let work = file .read-tree-within .kept .1 .1 .1 .1 .0 ∙ given .work in
+    let work = file .read-tree-within .ensures .long ∙ given .work in
     let table =
-    taken (at-limits (limits file .sheet-limits .ensures) (file .read-tree-within .ensures)) (given .parent)
+    taken _ _ _ _ (at-limits _ _ _ _ (limits file .printed-limits .ensures) (file .read-tree-within .ensures)) (given .parent)
     (given .rank) (given .work) (accepted second .enum-told .given .1) in
     let steep =
-    drawn-fresh table (first second .layout .ensures) (given .times) (given .steep-x) (given .steep-y) work in
+    drawn-fresh table _ _ _ (first second .layout .ensures .says) (given .times) (given .steep-x) (given .steep-y) work in
     let balanced =
-    drawn-fresh table (second .layout2 .ensures) (first second .layout .kept .1 .1 .1 .0 ∙ given .times)
-    (given .balanced-x) (given .balanced-y) (first second .layout .kept .1 .1 .1 .1 .1 .1 .0 ∙ work) in
+    drawn-fresh table _ _ _ (second .layout2 .ensures .says) (times-long table _ steep) (given .balanced-x)
+    (given .balanced-y) (first second .layout .ensures .long ∙ work) in
     both-shown table steep balanced (written .put-sheet .ensures)
 
 pub fitted-text-spec : {M : Type 1} → statement M

@@ -80,7 +80,7 @@ returns-8 c =
     let at-if3 = few parents-fit in
     read _ _ _ _ _ (headed at-if3 .if1 .left) (stated at-if3 .word .ensures .0) (some at-if3 .if2 .left)
     (at-if3 .if3 .left) (whole parents-fit .if4 .left) (stated at-if3 .word .ensures .1) (parents-fit .if5 .left)
-    (work-fits .before .if6 .left) (work-fits .if7 .left) (loaded .load .ensures)
+    (work-fits .before .if6 .left) (work-fits .if7 .left) (search needs) (loaded .load .ensures)
 
 pub read-tree-within-spec : {M : Type 1} → statement M
 read-tree-within-spec = tie.close (tie.spec

@@ -9,15 +9,16 @@ laid c = c .before .before .before .before .before .before .before
 
 returns : tie.Need-returns
 returns c =
-    replayed-refused (laid (c .before .before .before .before) .layout .ensures) _ _ _ (c .before .number .given .1)
+    replayed-refused _ _ _ _ _ _ (laid (c .before .before .before .before) .layout .ensures .says) _ _ _
+    (c .before .number .given .1)
 
 returns-2 : tie.Need-returns-2
 returns-2 c =
     let at-make-calls = c .before .before .before .before .before .before .before .before in
     let at-width = at-make-calls .before .before .before .before .before .before in
     let at-layout = laid (at-width .before .before .before) in
-    replayed-all (at-layout .layout .ensures) _ _ _ (at-width .width .given .1)
-    (at-layout .layout .kept .1 .1 .1 .1 .1 .1 .0) (at-make-calls .make-calls .ensures)
+    replayed-all _ _ _ _ _ _ (at-layout .layout .ensures .says) _ _ _ (at-width .width .given .1)
+    (at-layout .layout .ensures .long) (at-make-calls .make-calls .ensures)
 
 pub replay-spec : {M : Type 1} → statement M
 replay-spec = tie.close (tie.spec (λ c κs. search needs) (λ c. search needs) (λ c. search needs)
