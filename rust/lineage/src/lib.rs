@@ -286,6 +286,38 @@ impl Sheet {
         Ok(sheet)
     }
 
+    /// The sheet that these lists are, as one that was saved. It is refused with 3 where a list is not as long as the
+    /// tree, and with 8 at the first lot whose times or place breaks the rule. The library itself says so: it is asked
+    /// to lengthen an edge by nothing, and that is the call which a refusal names.
+    ///
+    /// ```
+    /// use lineage::{Call, Frame, Refused, Rule, Sheet, Tree};
+    ///
+    /// let pair = Tree::new(vec![0, 0], vec![0, 0])?;
+    /// let sheet = Sheet::from_lists(pair.clone(), Rule::Steep, vec![1, 5], vec![0, 5], vec![0, 5])?;
+    /// assert_eq!(sheet.frame(), Frame { width: 5, height: 5 });
+    ///
+    /// let refused = |number, lot| Refused { call: Call::Lengthen, number, lot };
+    /// let moved = Sheet::from_lists(pair.clone(), Rule::Steep, vec![1, 5], vec![0, 4], vec![0, 5]);
+    /// assert_eq!(moved.unwrap_err(), refused(8, 1));
+    /// let short = Sheet::from_lists(pair, Rule::Steep, vec![1], vec![0, 5], vec![0, 5]);
+    /// assert_eq!(short.unwrap_err(), refused(3, 0));
+    ///
+    /// let one = Tree::new(vec![0], vec![0])?;
+    /// assert!(Sheet::from_lists(one.clone(), Rule::Steep, vec![1], vec![0], vec![0]).is_ok());
+    /// assert_eq!(Sheet::from_lists(one, Rule::Steep, vec![2], vec![0], vec![0]).unwrap_err(), refused(8, 0));
+    /// # Ok::<(), Refused>(())
+    /// ```
+    pub fn from_lists(tree: Tree, rule: Rule, times: Vec<u32>, x: Vec<u32>, y: Vec<u32>) -> Result<Sheet, Refused> {
+        let (work, frame) = (vec![0; 4 * tree.lots()], Frame { width: 0, height: 0 });
+        let mut sheet = Sheet { tree, rule, times, x, y, work, frame };
+        match sheet.lengthen(1, 0) {
+            // one lot has no edge to lengthen; 9 comes after 3 and 8, so its lists are a sheet, of frame 0 by 0
+            Err(Refused { number: 9, .. }) => Ok(sheet),
+            asked => asked.map(|_| sheet),
+        }
+    }
+
     /// Makes the edge of a lot longer by `count` times its slope; its whole subtree moves along.
     pub fn lengthen(&mut self, lot: u32, count: u32) -> Result<Frame, Refused> {
         let (balanced, parent, rank, lists, work) = self.lent();
