@@ -1,50 +1,49 @@
 //! The commands, run as a person would.
 
-use std::path::PathBuf;
-use std::process::{Command, Output};
+mod common;
 
-fn lineage(words: &[&str]) -> Output {
-    Command::new(env!("CARGO_BIN_EXE_lineage")).args(words).output().unwrap()
-}
+use common::{bash, fails, file, five, lineage, out, place, tree};
+use std::os::unix::ffi::OsStringExt;
+use std::process::Command;
 
-fn out(words: &[&str]) -> String {
-    let done = lineage(words);
-    assert!(done.status.success(), "{words:?}: {}", String::from_utf8_lossy(&done.stderr));
-    String::from_utf8(done.stdout).unwrap()
-}
-
-/// The status and the message of a command that fails.
-fn fails(words: &[&str]) -> (i32, String) {
-    let done = lineage(words);
-    (done.status.code().unwrap(), String::from_utf8(done.stderr).unwrap())
-}
-
-/// A file of the test's own.
-fn file(name: &str, bytes: &[u8]) -> String {
-    let folder = PathBuf::from(env!("CARGO_TARGET_TMPDIR"));
-    let path = folder.join(name);
-    std::fs::write(&path, bytes).unwrap();
-    path.to_str().unwrap().to_string()
-}
-
-/// Document 01's five lots: parents 0 0 0 1 1, ranks 0 0 1 0 1.
-fn five(name: &str) -> String {
-    let numbers = [5u32, 0, 0, 0, 1, 1, 0, 0, 1, 0, 1];
-    let bytes: Vec<u8> = numbers.iter().flat_map(|w| w.to_le_bytes()).collect();
-    file(name, &bytes)
-}
+const FRESH: &str = "lineage sheet: rule steep, lots 5, frame 2 5\nlot times x y\n\
+                     0 1 0 0\n1 1 1 3\n2 1 1 4\n3 1 2 4\n4 1 2 5\n";
+const STRETCHED: &str = "lineage sheet: rule steep, lots 5, frame 4 11\nlot times x y\n\
+                         0 1 0 0\n1 3 3 9\n2 1 1 4\n3 1 4 10\n4 1 4 11\n";
 
 #[test]
 fn sheets() {
     let tree = five("sheets.tree");
-    assert_eq!(out(&["sheet", &tree]), "0 1 0 0\n1 1 1 3\n2 1 1 4\n3 1 2 4\n4 1 2 5\nframe 2 5\n");
-    let stretched = out(&["sheet", &tree, "--lengthen", "1:2"]);
-    assert_eq!(stretched, "0 1 0 0\n1 3 3 9\n2 1 1 4\n3 1 4 10\n4 1 4 11\nframe 4 11\n");
-    let back = out(&["sheet", &tree, "--lengthen", "1:2", "--shorten", "1:2"]);
-    assert_eq!(back, out(&["sheet", &tree]));
+    assert_eq!(out(&["sheet", &tree]), FRESH);
+    assert_eq!(out(&["sheet", &tree, "--lengthen", "1:2"]), STRETCHED);
+    assert_eq!(out(&["sheet", &tree, "--lengthen", "1:2", "--shorten=1:2"]), FRESH);
     let (status, message) = fails(&["sheet", &tree, "--lengthen", "1:2", "--shorten", "1:3"]);
     assert_eq!(status, 1);
     assert!(message.contains("sheets.tree") && message.contains("(12) at lot 1"), "{message}");
+}
+
+#[test]
+fn saved_sheets_are_taken_up_again() {
+    let (tree, saved) = (five("saved.tree"), place("saved.sheet"));
+    out(&["sheet", &tree, "--lengthen", "1:2", "-o", &saved]);
+    assert_eq!(out(&["sheet", &tree, "--sheet", &saved]), STRETCHED);
+    assert_eq!(out(&["sheet", &tree, "--sheet", &saved, "--shorten", "1:2"]), FRESH);
+    assert_eq!(out(&["check", &tree, "--sheet", &saved]), "Monotone\n");
+    let svg = out(&["draw", &tree, "--sheet", &saved]);
+    assert!(svg.contains("<title>lot 4, parent 1, at (4, 11)</title>"));
+    let says = |name: &str, text: &str| fails(&["check", &tree, "--sheet", &file(name, text.as_bytes())]);
+    let (status, message) = says("broken.sheet", &STRETCHED.replace("3 1 4 10", "3 1 4 9"));
+    assert!(status == 1 && message.contains("broken.sheet") && message.contains("(8) at lot 3"), "{message}");
+    let (status, message) =
+        says("other.sheet", "lineage sheet: rule steep, lots 1, frame 0 0\nlot times x y\n0 1 0 0\n");
+    assert!(status == 1 && message.contains("(3)"), "{message}");
+    let (status, message) = says("damaged.sheet", &STRETCHED.replace("3 1 4 10", "3 1 four 10"));
+    assert!(status == 2 && message.contains("damaged.sheet:6:5: x is expected"), "{message}");
+    let (status, message) = says("frame.sheet", &STRETCHED.replace("frame 4 11", "frame 4 12"));
+    assert!(status == 2 && message.contains("frame.sheet:1:"), "{message}");
+    assert!(says("no.sheet", "a\n").1.contains("no.sheet: is not a sheet file"));
+    let (status, message) = fails(&["check", &saved]);
+    assert!(status == 2 && message.contains("is a sheet file: name its tree here"), "{message}");
 }
 
 #[test]
@@ -52,22 +51,69 @@ fn directions_and_checks() {
     let tree = five("directions.tree");
     assert_eq!(out(&["direction", &tree, "3", "2"]), "-7 2\n");
     assert_eq!(fails(&["direction", &tree, "3", "3"]).0, 1);
+    assert!(fails(&["direction", &tree, "3", "x"]).1.contains("TO: 'x' is not a whole number"));
     assert_eq!(out(&["check", &tree, "--rule", "balanced"]), "Monotone\n");
     let square = file("square.txt", b"0 0\n0 1\n5 5\n0 0\n1 1\n");
     let turns = lineage(&["check", &tree, "--places", &square]);
     assert_eq!((turns.status.code(), &turns.stdout[..]), (Some(1), &b"Turns 0 3\n"[..]));
+    let wrong = file("places.txt", b"0 0\n\n0 one\n");
+    let (status, message) = fails(&["check", &tree, "--places", &wrong]);
+    assert!(status == 2 && message.contains("places.txt:3:3: y is expected"), "{message}");
 }
 
 #[test]
-fn outlines() {
+fn outlines_keep_names_and_numbers() {
     let outline = file("outline.txt", b"a\n  b\n    c\n    d\n  e\n");
-    let tree = file("outline.tree", b"");
+    let tree = place("outline.tree");
     out(&["outline", &outline, "-o", &tree]);
-    assert_eq!(out(&["outline", "--back", &tree]), "0\n  1\n    2\n    3\n  4\n");
+    assert_eq!(std::fs::read_to_string(format!("{tree}.names")).unwrap(), "a\nb\nc\nd\ne\n");
+    let back = out(&["outline", "--back", &tree]);
+    assert_eq!(back, "[0] a\n  [1] b\n    [2] c\n    [3] d\n  [4] e\n");
+    assert!(out(&["sheet", &tree]).contains("lot times x y name\n0 1 0 0 a\n"));
+    assert!(out(&["draw", &tree]).contains("<title>lot 4, e, parent 0,"));
+    // numbers that are not in the order of the lines
+    let five = five("numbers.tree");
+    let (text, again) = (place("numbers.txt"), place("numbers-again.tree"));
+    out(&["outline", "--back", &five, "-o", &text]);
+    out(&["outline", &text, "-o", &again]);
+    assert_eq!(std::fs::read(&five).unwrap(), std::fs::read(&again).unwrap());
+    // to a pipe the names cannot follow
+    let lost = lineage(&["outline", &outline]);
+    assert!(lost.status.success() && String::from_utf8_lossy(&lost.stderr).contains("5 names are not kept"));
+    std::fs::write(format!("{five}.names"), "a\nb\n").unwrap();
+    let (status, message) = fails(&["draw", &five]);
+    assert!(status == 2 && message.contains("has 2 names, and the tree beside it 5 lots"), "{message}");
+    std::fs::remove_file(format!("{five}.names")).unwrap();
+}
+
+#[test]
+fn a_chain_of_all_lots_goes_back_and_forth() {
+    let chain = tree("chain.tree", &(0..65536u32).map(|v| v.saturating_sub(1)).collect::<Vec<_>>());
+    let (text, again) = (place("chain.txt"), place("chain-again.tree"));
+    out(&["outline", "--back", &chain, "-o", &text]);
+    assert!(std::fs::metadata(&text).unwrap().len() < 2_000_000);
+    out(&["outline", &text, "-o", &again]);
+    assert_eq!(std::fs::read(&chain).unwrap(), std::fs::read(&again).unwrap());
+}
+
+#[test]
+fn files_of_the_wrong_kind_are_told() {
+    let (five, outline) = (five("kinds.tree"), file("kinds.txt", b"a\n  b\n"));
+    assert!(fails(&["outline", &five]).1.contains("kinds.tree: is a tree file, not an outline"));
+    assert!(fails(&["outline", "--back", &outline]).1.contains("kinds.txt: is text already, not a tree file"));
+    for command in ["draw", "sheet", "check"] {
+        out(&[command, &outline]);
+    }
+    assert_eq!(out(&["direction", &outline, "0", "1"]), "1 1\n");
     let two_roots = file("two-roots.txt", b"a\nb\n");
     let (status, message) = fails(&["outline", &two_roots]);
-    assert_eq!(status, 2);
-    assert!(message.contains("two-roots.txt:2:"), "{message}");
+    assert!(status == 2 && message.contains("two-roots.txt:2:1:"), "{message}");
+    let short = file("short.tree", b"\x05\0\0\0");
+    let (status, message) = fails(&["draw", &short]);
+    assert!(status == 1 && message.contains("short.tree") && message.contains("(17)"), "{message}");
+    let folder = env!("CARGO_TARGET_TMPDIR");
+    let (status, message) = fails(&["draw", folder]);
+    assert!(status == 2 && message.contains("directory"), "{message}");
 }
 
 #[test]
@@ -78,23 +124,131 @@ fn drawings() {
     assert_eq!(svg.matches("<line").count(), 4);
     assert_eq!(svg.matches("<circle").count(), 5);
     assert!(svg.contains("rises along (-7, 2)"));
-    let tall = out(&["draw", &tree, "--lengthen", "2:500000000"]);
-    assert_eq!(tall.matches("<circle").count(), 5);
-    assert!(!tall.contains("NaN") && !tall.contains("inf"));
+    let (status, message) = fails(&["draw", &tree, "--path", "3:3"]);
+    assert!(status == 1 && message.contains("lots 3 and 3") && message.contains("(13)"), "{message}");
 }
 
 #[test]
-fn wrong_uses() {
-    assert_eq!(fails(&[]).0, 2);
+fn names_of_files_may_be_any_bytes() {
+    let name = std::ffi::OsString::from_vec([place("").as_bytes(), b"odd-\xff.tree"].concat());
+    std::fs::copy(five("odd.tree"), &name).unwrap();
+    let done = Command::new(env!("CARGO_BIN_EXE_lineage")).arg("sheet").arg(&name).output().unwrap();
+    assert_eq!(String::from_utf8(done.stdout).unwrap(), FRESH);
+    let mut absent = name.clone();
+    absent.push("x");
+    let done = Command::new(env!("CARGO_BIN_EXE_lineage")).arg("draw").arg(&absent).output().unwrap();
+    assert_eq!(done.status.code(), Some(2));
+}
+
+#[test]
+fn nothing_is_lost_silently() {
+    let (tree, outline) = (five("lost.tree"), file("lost.txt", b"a\n"));
+    let large = common::tree("lost-large.tree", &[0; 5000]);
+    for line in [format!("sheet {tree}"), format!("draw {tree}"), format!("outline {outline}"), "--help".to_string()]
+    {
+        let (status, _, said) = bash(&format!("$lineage {line} >/dev/full"));
+        assert!(status == 2 && said.contains("standard output: No space left on device"), "{line}: {said}");
+        let (status, _, said) = bash(&format!("$lineage {line} >&-"));
+        assert!(status == 2 && said.contains("standard output: Bad file descriptor"), "{line}: {said}");
+    }
+    let (status, _, said) = bash(&format!("$lineage draw {tree} -o /dev/full"));
+    assert!(status == 2 && said.contains("/dev/full: No space left"), "{said}");
+    let (status, _, said) = bash("$lineage draw - <&-");
+    assert!(status == 2 && said.contains("standard input: Bad file descriptor"), "{said}");
+    let (status, _, said) = bash("$lineage draw - < .");
+    assert!(status == 2 && said.contains("standard input: Is a directory"), "{said}");
+    assert_eq!(bash(&format!("$lineage draw {tree} -o /no/such/folder/x.svg")).0, 2);
+    // nobody reads on: quiet, and one status, whether the signal is taken or not
+    for first in ["", "trap '' PIPE; "] {
+        let (status, _, said) = bash(&format!("set -o pipefail; {first}$lineage draw {large} | head -c 10"));
+        assert_eq!((status, said.as_str()), (141, ""));
+    }
+    // a message that cannot be written changes no status
+    assert_eq!(bash("$lineage draw no-such-file 2>&-").0, 2);
+    assert_eq!(bash("$lineage draw no-such-file 2>/dev/full").0, 2);
+}
+
+#[test]
+fn conventions() {
+    let tree = five("conventions.tree");
+    let (status, message) = fails(&[]);
+    assert!(status == 2 && message.contains("lineage draw") || message.contains("draw TREE"), "{message}");
     assert_eq!(fails(&["paint"]).0, 2);
+    assert_eq!(fails(&["help", "paint"]).0, 2);
+    assert_eq!(fails(&["--paint"]).0, 2);
+    assert_eq!(out(&["--version"]), format!("lineage {}\n", env!("CARGO_PKG_VERSION")));
+    assert_eq!(out(&["-h"]), out(&["--help"]));
+    assert_eq!(out(&["help"]), out(&["--help"]));
+    for command in ["draw", "sheet", "check", "direction", "outline", "completion", "man", "help"] {
+        let help = out(&[command, "--help"]);
+        assert!(help.starts_with(&format!("lineage {command}")) && help.contains("Exit status:"));
+        assert_eq!(out(&[command, "-h"]), help);
+        assert_eq!(out(&["help", command]), help);
+        assert!(out(&["--help"]).contains(&format!("    {command} ")));
+    }
+    assert_eq!(out(&["sheet", "-o", "-", "--", &tree]), FRESH);
+    assert_eq!(bash(&format!("$lineage sheet - <{tree}")).1, FRESH);
     let (status, message) = fails(&["draw", "no-such-file"]);
-    assert_eq!(status, 2);
-    assert!(message.contains("no-such-file"));
-    let short = file("short.tree", b"\x05\0\0\0");
-    let (status, message) = fails(&["draw", &short]);
-    assert_eq!(status, 1);
-    assert!(message.contains("short.tree") && message.contains("(17)"), "{message}");
+    assert!(status == 2 && message.contains("no-such-file"), "{message}");
+    for wrong in [
+        &["sheet", &tree, "--rule", "steep", "--rule", "steep"][..],
+        &["sheet", &tree, "--rule=flat"],
+        &["sheet", &tree, &tree],
+        &["check", &tree, "--places", &tree, "--rule", "steep"],
+        &["check", &tree, "--sheet", &tree, "--rule", "steep"],
+        &["direction", &tree, "1", "2", "--sheet", &tree],
+        &["draw", &tree, "--page", "A9"],
+        &["draw", &tree, "--lengthen", "1"],
+        &["draw", &tree, "--lengthen", "1:x"],
+        &["outline", &tree, "--rule", "steep"],
+        &["completion", "zsh"],
+        &["man", "draw"],
+    ] {
+        let (status, message) = fails(wrong);
+        assert!(
+            status == 2 && message.starts_with("lineage: ") && message.lines().count() == 1,
+            "{wrong:?}: {message}"
+        );
+    }
+}
+
+/// What bash offers for a line; the last word is the one that is being typed.
+fn offered(words: &str) -> Vec<String> {
+    let line = format!(
+        "source <($lineage completion bash); COMP_WORDS=({words}); COMP_CWORD=$((${{#COMP_WORDS[@]}} - 1)); \
+         _lineage; printf '%s\\n' \"${{COMPREPLY[@]}}\""
+    );
+    let (status, told, said) = bash(&line);
+    assert!(status == 0 && said.is_empty(), "{said}");
+    told.lines().filter(|l| !l.is_empty()).map(str::to_string).collect()
+}
+
+#[test]
+fn bash_completes() {
+    assert_eq!(offered("lineage d"), ["draw", "direction"]);
+    assert_eq!(offered("lineage draw x --p"), ["--path", "--page"]);
+    assert_eq!(offered("lineage draw x --rule b"), ["balanced"]);
+    assert_eq!(offered("lineage draw x --page ''"), ["A4", "A3"]);
+    assert_eq!(offered("lineage completion ''"), ["bash"]);
+    assert_eq!(offered("lineage help o"), ["outline"]);
+    let tree = five("complete-me.tree");
+    let begun = tree.strip_suffix("-me.tree").unwrap();
+    assert_eq!(offered(&format!("lineage draw {begun}")), [tree.clone()]);
+    assert_eq!(offered(&format!("lineage draw x --sheet {begun}")), [tree]);
+}
+
+#[test]
+fn the_manual_page_tells_what_the_help_tells() {
+    let page = out(&["man"]).replace("\\-", "-");
     for command in ["draw", "sheet", "check", "direction", "outline"] {
-        assert!(out(&[command, "--help"]).starts_with(&format!("lineage {command}")));
+        let help = out(&[command, "--help"]);
+        for option in help.lines().filter_map(|line| line.strip_prefix("    -")) {
+            let name = format!(".B -{}", option.split_whitespace().next().unwrap());
+            assert!(page.contains(&name), "{name}");
+        }
+        assert!(page.contains(&format!(".SS {command}\n")));
+    }
+    for status in ["0", "1", "2", "141"] {
+        assert!(page.contains(&format!(".B {status}\n")));
     }
 }
