@@ -74,9 +74,9 @@ pub fn place(scene: &Scene, numbers: &[String], names: &[String], asked: &[usize
             return Err(dot);
         }
     }
-    for dot in 0..n {
+    for (dot, number) in numbers.iter().enumerate() {
         if placing.label_of[dot].is_none() && !placing.crowded(dot) {
-            placing.put(dot, &numbers[dot], &NEAR, Leave::Nothing);
+            placing.put(dot, number, &NEAR, Leave::Nothing);
         }
     }
     for (dot, name) in names.iter().enumerate().filter(|(_, name)| !name.is_empty()) {

@@ -21,7 +21,7 @@ pub fn page() -> String {
     );
     for (i, command) in COMMANDS.iter().enumerate() {
         let newline = if i > 0 { ".br\n" } else { "" };
-        write!(page, "{newline}{}\n", plain(&command.usage())).unwrap();
+        writeln!(page, "{newline}{}", plain(&command.usage())).unwrap();
     }
     write!(page, ".SH DESCRIPTION\n{}\n.SH COMMANDS\n", plain(TREE_IS)).unwrap();
     for command in &COMMANDS {
