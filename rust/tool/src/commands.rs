@@ -157,6 +157,7 @@ fn outline_command(given: &Given) -> Result<(), Stop> {
             ))
         }
         Content::Sheet(_) => return misuse(format!("{file}: is a sheet file, not an outline")),
+        Content::Neither => return files::neither(&file),
     };
     let source = files::outlined(file, &text)?;
     files::write(out, &source.tree.to_bytes())?;
@@ -174,6 +175,7 @@ fn outline_command(given: &Given) -> Result<(), Stop> {
 fn outline_back(path: &OsStr, out: Option<&OsStr>) -> Result<(), Stop> {
     let source = match files::content(files::read(path)?) {
         Content::Tree(bytes) => files::treed(path, &bytes)?,
+        Content::Neither => return files::neither(&files::shown(path)),
         _ => return misuse(format!("{}: is text already, not a tree file", files::shown(path))),
     };
     files::write(out, outline::text(&source.tree, &source.names).as_bytes())

@@ -150,14 +150,13 @@ fn head(svg: &mut String, sheet: &Sheet, ask: &Ask, plan: &Plan, labels: usize) 
         plan.stroke.min(1.0)
     )
     .unwrap();
-    let first = ask.first_path_row() - 2;
     if !ask.title.is_empty() {
         row(svg, page, 0, &ask.title, (16.0, "#000"));
     }
-    row(svg, page, first, &caption, (13.0, "#555"));
+    row(svg, page, ask.caption_row(), &caption, (13.0, "#555"));
     let remarks = remarks(plan, labels);
     if !remarks.is_empty() {
-        row(svg, page, first + 1, &remarks, (13.0, "#555"));
+        row(svg, page, ask.remarks_row(), &remarks, (13.0, "#555"));
     }
 }
 
@@ -197,7 +196,7 @@ fn highlight(
         points.join(" ")
     )
     .unwrap();
-    let at = ask.first_path_row() + number;
+    let at = ask.caption_row() + 1 + number;
     row(svg, &ask.page, at, &format!("the path from {u} to {v} rises along {along}"), (13.0, colour));
     // rising means a positive product with (d, e): on a page with two scales that is a direction divided by them
     let (dx, dy) = (f64::from(along.d) / plan.view.scale.0, -f64::from(along.e) / plan.view.scale.1);

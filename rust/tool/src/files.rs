@@ -57,21 +57,30 @@ fn lost(what: &str, e: &io::Error) -> Stop {
     Stop { status: MISUSE, message: format!("{what}: {e}") }
 }
 
-/// What a file holds, by its bytes: a tree file begins with its number of lots, and no text has the bytes of that.
+/// What a file holds, by its bytes. A tree file begins with its number of lots, least byte first: the fourth byte is 0,
+/// which no text has.
 pub enum Content {
     Tree(Vec<u8>),
     Outline(String),
     Sheet(String),
+    Neither,
 }
 
 pub fn content(bytes: Vec<u8>) -> Content {
+    let may_be_tree = bytes.get(3).is_none_or(|&byte| byte == 0);
     let is_text = |text: &str| !text.is_empty() && text.chars().all(|c| !c.is_control() || "\t\n\r".contains(c));
     match String::from_utf8(bytes) {
-        Ok(text) if !is_text(&text) => Content::Tree(text.into_bytes()),
-        Ok(text) if text.starts_with(sheetfile::FIRST) => Content::Sheet(text),
-        Ok(text) => Content::Outline(text),
-        Err(e) => Content::Tree(e.into_bytes()),
+        Ok(text) if is_text(&text) && text.starts_with(sheetfile::FIRST) => Content::Sheet(text),
+        Ok(text) if is_text(&text) => Content::Outline(text),
+        Ok(text) if may_be_tree => Content::Tree(text.into_bytes()),
+        Err(e) if may_be_tree => Content::Tree(e.into_bytes()),
+        _ => Content::Neither,
     }
+}
+
+/// Why a file is of no use here.
+pub fn neither<T>(file: &str) -> Result<T, Stop> {
+    misuse(format!("{file}: is neither a tree file nor text in UTF-8"))
 }
 
 /// A tree, the names of its lots (one for each, or none at all), and what to call it in a message.
@@ -88,6 +97,7 @@ pub fn source(path: &OsStr) -> Result<Source, Stop> {
         Content::Tree(bytes) => treed(path, &bytes),
         Content::Outline(text) => outlined(file, &text),
         Content::Sheet(_) => misuse(format!("{file}: is a sheet file: name its tree here, and the sheet by --sheet")),
+        Content::Neither => neither(&file),
     }
 }
 
@@ -144,13 +154,17 @@ mod tests {
             Content::Tree(_) => "tree",
             Content::Outline(_) => "outline",
             Content::Sheet(_) => "sheet",
+            Content::Neither => "neither",
         }
     }
 
     #[test]
     fn kinds_are_told_apart_by_their_bytes() {
-        for tree in [&b""[..], b"\x05", b"\x05\0\0", b"ab\0\0....", b"\xff\xff\xff\xff"] {
+        for tree in [&b""[..], b"\x05", b"\x05\0\0", b"ab\0\0....", b"\xff\xff\xff\0"] {
             assert_eq!(kind(tree), "tree", "{tree:?}");
+        }
+        for neither in [&b"\xff\xff\xff\xff"[..], b"Gr\xf6\xdfe\n", b"bell\x07\n"] {
+            assert_eq!(kind(neither), "neither", "{neither:?}");
         }
         assert_eq!(kind(b"r"), "outline");
         assert_eq!(kind("Wurzel\n\tKind, größer\r\n".as_bytes()), "outline");

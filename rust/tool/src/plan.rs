@@ -23,18 +23,18 @@ pub struct Ask {
 }
 
 impl Ask {
-    /// The rows of text at the top: a title, the caption, the remarks, and one for each path.
-    pub fn rows(&self) -> usize {
-        self.first_path_row() + self.paths.len()
+    /// The rows of text at the top are a title, the caption, one for each path, and the remarks.
+    pub fn caption_row(&self) -> usize {
+        usize::from(!self.title.is_empty())
     }
 
-    pub fn first_path_row(&self) -> usize {
-        2 + usize::from(!self.title.is_empty())
+    pub fn remarks_row(&self) -> usize {
+        self.caption_row() + 1 + self.paths.len()
     }
 
     /// Where the text at the top ends.
     pub fn top(&self) -> f64 {
-        24.0 + ROW * self.rows() as f64
+        24.0 + ROW * (self.remarks_row() + 1) as f64
     }
 }
 

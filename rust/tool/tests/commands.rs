@@ -105,6 +105,10 @@ fn files_of_the_wrong_kind_are_told() {
         out(&[command, &outline]);
     }
     assert_eq!(out(&["direction", &outline, "0", "1"]), "1 1\n");
+    let latin = file("kinds-latin.txt", b"Gr\xf6\xdfe\n");
+    for words in [&["draw", &latin][..], &["outline", &latin], &["outline", "--back", &latin]] {
+        assert!(fails(words).1.contains("is neither a tree file nor text"));
+    }
     let two_roots = file("two-roots.txt", b"a\nb\n");
     let (status, message) = fails(&["outline", &two_roots]);
     assert!(status == 2 && message.contains("two-roots.txt:2:1:"), "{message}");
