@@ -176,7 +176,7 @@ fn nothing_is_lost_silently() {
 fn conventions() {
     let tree = five("conventions.tree");
     let (status, message) = fails(&[]);
-    assert!(status == 2 && message.contains("lineage draw") || message.contains("draw TREE"), "{message}");
+    assert!(status == 2 && message.contains("draw TREE"), "{message}");
     assert_eq!(fails(&["paint"]).0, 2);
     assert_eq!(fails(&["help", "paint"]).0, 2);
     assert_eq!(fails(&["--paint"]).0, 2);
@@ -192,10 +192,14 @@ fn conventions() {
     }
     assert_eq!(out(&["sheet", "-o", "-", "--", &tree]), FRESH);
     assert_eq!(bash(&format!("$lineage sheet - <{tree}")).1, FRESH);
-    let (status, message) = fails(&["draw", "no-such-file"]);
-    assert!(status == 2 && message.contains("no-such-file"), "{message}");
+}
+
+#[test]
+fn wrong_uses_are_told_in_a_line() {
+    let tree = five("wrong-uses.tree");
     for wrong in [
-        &["sheet", &tree, "--rule", "steep", "--rule", "steep"][..],
+        &["draw", "no-such-file"][..],
+        &["sheet", &tree, "--rule", "steep", "--rule", "steep"],
         &["sheet", &tree, "--rule=flat"],
         &["sheet", &tree, &tree],
         &["check", &tree, "--places", &tree, "--rule", "steep"],
