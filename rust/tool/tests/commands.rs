@@ -241,7 +241,7 @@ fn bash_completes() {
     assert_eq!(offered("lineage help o"), ["outline"]);
     let tree = five("complete-me.tree");
     let begun = tree.strip_suffix("-me.tree").unwrap();
-    assert_eq!(offered(&format!("lineage draw {begun}")), [tree.clone()]);
+    assert_eq!(offered(&format!("lineage draw {begun}")), std::slice::from_ref(&tree));
     assert_eq!(offered(&format!("lineage draw x --sheet {begun}")), [tree]);
 }
 
