@@ -13,45 +13,40 @@ Inv-loop rule parent rank times₀ x₀ y₀ work n here₀ after₀ j₀ times 
 abbrev μ-loop : tie.MeasureT-loop
 μ-loop rule parent rank times₀ x₀ y₀ work n here₀ after₀ j₀ times x y here after j = j
 
-put-requires : tie.Need-put-requires Inv-loop μ-loop
-put-requires c κs = omega arith
+-- once the node of this turn is found, with its parent
+module _ (c : tie.After-put4 Inv-loop μ-loop) where
+  abbrev its-parent : tie.After-get Inv-loop μ-loop
+  its-parent = c .before .before
 
-put-requires-2 : tie.Need-put-requires-2 Inv-loop μ-loop
-put-requires-2 c κs = omega arith
+  abbrev found : tie.After-node-at Inv-loop μ-loop
+  found = its-parent .before
 
-put-requires-3 : tie.Need-put-requires-3 Inv-loop μ-loop
-put-requires-3 c κs = omega arith
+  abbrev going-on : tie.In-loop Inv-loop μ-loop
+  going-on = found .before
 
-sub-bordered-at : tie.Need-sub-bordered-at Inv-loop μ-loop
-sub-bordered-at c = omega arith
+  abbrev round : tie.At-loop Inv-loop μ-loop
+  round = going-on .before
 
-bordered-at-requires : tie.Need-bordered-at-requires Inv-loop μ-loop
-bordered-at-requires c κs = (omega arith, omega arith, omega arith)
+abbrev timed : tie.After-hang Inv-loop μ-loop → tie.After-put4 Inv-loop μ-loop
+timed c = c .before .before .before .before
 
-bordered-at-requires-2 : tie.Need-bordered-at-requires-2 Inv-loop μ-loop
-bordered-at-requires-2 c κs = (omega arith, omega arith, omega arith)
-
-sub-j : tie.Need-sub-j Inv-loop μ-loop
-sub-j c = omega arith
+abbrev x-hung : tie.After-hang2 Inv-loop μ-loop → tie.After-hang Inv-loop μ-loop
+x-hung c = c .before .before .before .before
 
 loop-holds : tie.Need-loop-holds Inv-loop μ-loop
 loop-holds c =
-    let at-bordered-at = c .before in
-    let at-put3 = at-bordered-at .before .before .before in
+    let at-put3 = c .before .before .before .before in
     let at-put2 = at-put3 .before .before .before .before in
     let at-put = at-put2 .before .before .before .before in
-    let at-entry = at-put .before .before .before .before .before .before .before .before in (
-      backward-start (at-entry .pre .sized .numbered) (at-bordered-at .bordered-at .ensures) (c .bordered-at2 .ensures),
-      laying-start (at-entry .pre) (at-put .put .ensures) (at-put2 .put2 .ensures) (at-put3 .put3 .ensures),
+    let start = at-put .before .before .before .before .before .before .before .before in (
+      backward-start (start .pre .sized .numbered) (c .before .bordered-at .ensures) (c .bordered-at2 .ensures),
+      laying-start (start .pre) (at-put .put .ensures) (at-put2 .put2 .ensures) (at-put3 .put3 .ensures),
     )
 
 node-at-requires : tie.Need-node-at-requires Inv-loop μ-loop
 node-at-requires c κs =
     let pass = c .before .loop .inv .0 in
     (pass .numbered, c .loop-test .taken, pass .low)
-
-get-requires : tie.Need-get-requires Inv-loop μ-loop
-get-requires c κs = c .node-at .ensures .inside
 
 put-requires-4 : tie.Need-put-requires-4 Inv-loop μ-loop
 put-requires-4 c κs =
@@ -61,88 +56,50 @@ put-requires-4 c κs =
 
 hang-requires : tie.Need-hang-requires Inv-loop μ-loop
 hang-requires c κs =
-    let at-get = c .before .before .before .before .before in
-    let at-node-at = at-get .before in
-    let turn = at-node-at .before in
-    let inv = turn .before .loop .inv in
-    let node = at-node-at .node-at .ensures in
-    laying-x (inv .1) node (at-get .get .ensures .0) (backward-edge (inv .0) (turn .loop-test .taken) node)
+    let at-put4 = c .before .before .before in
+    let inv = round at-put4 .loop .inv in
+    let node = found at-put4 .node-at .ensures in
+    laying-x (inv .1) node (its-parent at-put4 .get .ensures .0)
+    (backward-edge (inv .0) (going-on at-put4 .loop-test .taken) node)
 
 hang-requires-2 : tie.Need-hang-requires-2 Inv-loop μ-loop
 hang-requires-2 c κs =
-    let at-get = c .before .before .before .before .before .before .before .before .before in
-    let at-node-at = at-get .before in
-    let turn = at-node-at .before in
-    let inv = turn .before .loop .inv in
-    let node = at-node-at .node-at .ensures in
-    laying-y (inv .1) node (at-get .get .ensures .0) (backward-edge (inv .0) (turn .loop-test .taken) node)
+    let at-put4 = timed (c .before .before .before) in
+    let inv = round at-put4 .loop .inv in
+    let node = found at-put4 .node-at .ensures in
+    laying-y (inv .1) node (its-parent at-put4 .get .ensures .0)
+    (backward-edge (inv .0) (going-on at-put4 .loop-test .taken) node)
 
 slope-before-requires : tie.Need-slope-before-requires Inv-loop μ-loop
 slope-before-requires c κs =
-    let at-hang2 = c .before .before in
-    let at-hang = at-hang2 .before .before .before .before in
-    let at-put4 = at-hang .before .before .before .before in
-    let turn = at-put4 .before .before .before .before in
-    backward-ready (turn .before .loop .inv .0) (turn .loop-test .taken)
-
-sub-j-2 : tie.Need-sub-j-2 Inv-loop μ-loop
-sub-j-2 c = omega arith
-
-loop-less : tie.Need-loop-less Inv-loop μ-loop
-loop-less c = omega arith
+    let at-put4 = timed (x-hung (c .before .before)) in
+    backward-ready (round at-put4 .loop .inv .0) (going-on at-put4 .loop-test .taken)
 
 loop-again : tie.Need-loop-again Inv-loop μ-loop
 loop-again c =
-    let at-hang2 = c .before .before .before in
-    let at-hang = at-hang2 .before .before .before .before in
-    let at-put4 = at-hang .before .before .before .before in
-    let at-get = at-put4 .before .before in
-    let at-node-at = at-get .before in
-    let turn = at-node-at .before in
-    let inv = turn .before .loop .inv in
-    let some = turn .loop-test .taken in
-    let node = at-node-at .node-at .ensures in (
+    let y-hung = c .before .before .before in
+    let at-put4 = timed (x-hung y-hung) in
+    let inv = round at-put4 .loop .inv in
+    let some = going-on at-put4 .loop-test .taken in
+    let node = found at-put4 .node-at .ensures in (
       backward-step (inv .0) some (c .slope-before .ensures),
-      laying-step (inv .1) node (at-get .get .ensures .0) (backward-edge (inv .0) some node) (at-put4 .put4 .ensures)
-          (at-hang .hang .ensures) (at-hang2 .hang2 .ensures),
+      laying-step (inv .1) node (its-parent at-put4 .get .ensures .0) (backward-edge (inv .0) some node)
+          (at-put4 .put4 .ensures)
+          (x-hung y-hung .hang .ensures) (y-hung .hang2 .ensures),
     )
-
-same-length : tie.Need-same-length Inv-loop μ-loop
-same-length c = omega arith
-
-same-length-2 : tie.Need-same-length-2 Inv-loop μ-loop
-same-length-2 c = omega arith
-
-same-length-3 : tie.Need-same-length-3 Inv-loop μ-loop
-same-length-3 c = omega arith
 
 returns : tie.Need-returns Inv-loop μ-loop
 returns c = laying-end (c .before .loop .inv .1) (c .loop-test .left)
 
 pub draw-spec : {M : Type 1} → statement M
-draw-spec =
-    tie.close
-    (tie.spec
-    Inv-loop
-    μ-loop
-    put-requires
-    put-requires-2
-    put-requires-3
-    sub-bordered-at
-    bordered-at-requires
-    bordered-at-requires-2
-    sub-j
+draw-spec = tie.close (tie.spec Inv-loop μ-loop (λ c κs. omega arith) (λ c κs. omega arith) (λ c κs. omega arith)
+    (λ c. omega arith) (λ c κs. (omega arith, omega arith, omega arith))
+    (λ c κs. (omega arith, omega arith, omega arith)) (λ c. omega arith)
     loop-holds
-    node-at-requires
-    get-requires
+    node-at-requires (λ c κs. c .node-at .ensures .inside)
     put-requires-4
     hang-requires
     hang-requires-2
-    slope-before-requires
-    sub-j-2
-    loop-less
-    loop-again
-    same-length
-    same-length-2
-    same-length-3
+    slope-before-requires (λ c. omega arith) (λ c. omega arith)
+    loop-again (λ c. omega arith) (λ c. omega arith) (λ c. omega arith)
     returns)

@@ -15,43 +15,14 @@ abbrev μ-loop : tie.MeasureT-loop
 loop-holds : tie.Need-loop-holds Inv-loop μ-loop
 loop-holds c = maximum-start _
 
-mul-larger : tie.Need-mul-larger Inv-loop μ-loop
-mul-larger c = omega arith
-
-shared-slice-read-larger : tie.Need-shared-slice-read-larger Inv-loop μ-loop
-shared-slice-read-larger c = omega arith
-
-larger-requires : tie.Need-larger-requires Inv-loop μ-loop
-larger-requires c κs = tt
-
-add-i : tie.Need-add-i Inv-loop μ-loop
-add-i c = omega arith
-
-loop-less : tie.Need-loop-less Inv-loop μ-loop
-loop-less c = omega arith
-
 loop-again : tie.Need-loop-again Inv-loop μ-loop
 loop-again c =
     let at-loop-test = c .before .before in
-    let at-loop = at-loop-test .before in
-    maximum-step (at-loop .loop .inv) (at-loop-test .loop-test .taken) (c .larger .ensures)
+    maximum-step (at-loop-test .before .loop .inv) (at-loop-test .loop-test .taken) (c .larger .ensures)
 
 returns : tie.Need-returns Inv-loop μ-loop
-returns c =
-    let at-loop = c .before in
-    maximum-end (at-loop .loop .inv) (c .loop-test .left)
+returns c = maximum-end (c .before .loop .inv) (c .loop-test .left)
 
 pub largest-of-spec : {M : Type 1} → statement M
-largest-of-spec =
-    tie.close
-    (tie.spec
-    Inv-loop
-    μ-loop
-    loop-holds
-    mul-larger
-    shared-slice-read-larger
-    larger-requires
-    add-i
-    loop-less
-    loop-again
-    returns)
+largest-of-spec = tie.close (tie.spec Inv-loop μ-loop loop-holds (λ c. omega arith) (λ c. omega arith) (λ c κs. tt)
+    (λ c. omega arith) (λ c. omega arith) loop-again returns)

@@ -14,13 +14,7 @@ returns c =
     laid-at _ _ _ _ _ (limits .large-limits .ensures) (laid .layout-within .ensures)
 
 pub layout-spec : {M : Type 1} → statement M
-layout-spec =
-    tie.close
-    (tie.spec
-    (λ c κs. search needs)
+layout-spec = tie.close (tie.spec (λ c κs. search needs)
     (λ c κs. subst (λ (L : Limits). Roomy L) (sym (c .before .before .before .before .large-limits .ensures)) large-roomy)
-    (λ c. search needs)
-    (λ c. search needs)
-    (λ c. search needs)
-    (λ c. search needs)
+    (λ c. search needs) (λ c. search needs) (λ c. search needs) (λ c. search needs)
     returns)
