@@ -14,6 +14,17 @@ Inv-loop limit rule parent rank times x y work n here₀ after₀ j₀ here afte
 abbrev μ-loop : tie.MeasureT-loop
 μ-loop limit rule parent rank times x y work n here₀ after₀ j₀ here after j = j
 
+-- once a node is tested
+module _ (c : tie.After-node-fits Inv-loop μ-loop) where
+  abbrev found : tie.After-node-at Inv-loop μ-loop
+  found = c .before
+
+  abbrev going-on : tie.In-loop Inv-loop μ-loop
+  going-on = found .before
+
+  abbrev round : tie.At-loop Inv-loop μ-loop
+  round = going-on .before
+
 abbrev called : tie.In-loop Inv-loop μ-loop → tie.Start Inv-loop μ-loop
 called c = c .before .before .before .before .before .before .before .before .before .before
 
@@ -39,14 +50,14 @@ node-fits-requires c κs =
 
 slope-before-requires : tie.Need-slope-before-requires Inv-loop μ-loop
 slope-before-requires c κs =
-    let turn = c .before .before .before in
+    let turn = found (c .before) .before in
     backward-ready (turn .before .loop .inv .0) (turn .loop-test .taken)
 
 loop-again : tie.Need-loop-again Inv-loop μ-loop
 loop-again c =
     let fits = c .before in
     let tested = fits .before in
-    let node = tested .before in
+    let node = found tested in
     let turn = node .before in
     let inv = turn .before .loop .inv in (
       backward-step (inv .0) (turn .loop-test .taken) (c .slope-before .ensures),
@@ -56,27 +67,19 @@ loop-again c =
 returns : tie.Need-returns Inv-loop μ-loop
 returns c =
     let tested = c .before in
-    above-not (tested .before .node-at .ensures) (tested .node-fits .ensures) (not-true _ (c .if1 .taken))
+    above-not (found tested .node-at .ensures) (tested .node-fits .ensures) (not-true _ (c .if1 .taken))
 
 returns-2 : tie.Need-returns-2 Inv-loop μ-loop
 returns-2 c = above-end (c .before .loop .inv .1) (c .loop-test .left)
 
 pub all-fit-spec : {M : Type 1} → statement M
-all-fit-spec =
-    tie.close
-    (tie.spec
-    Inv-loop
-    μ-loop
-    (λ c. omega arith)
-    (λ c κs. (omega arith, omega arith, omega arith))
-    (λ c κs. (omega arith, omega arith, omega arith))
+all-fit-spec = tie.close (tie.spec Inv-loop μ-loop (λ c. omega arith)
+    (λ c κs. (omega arith, omega arith, omega arith)) (λ c κs. (omega arith, omega arith, omega arith))
     (λ c. omega arith)
     loop-holds
     node-at-requires
     node-fits-requires
     returns
-    slope-before-requires
-    (λ c. omega arith)
-    (λ c. omega arith)
+    slope-before-requires (λ c. omega arith) (λ c. omega arith)
     loop-again
     returns-2)

@@ -6,25 +6,15 @@ use Rattle.stretching.specs.Parts.{by}
 use Rattle.stretching.proofs.changed.Statement.{statement}
 use Rattle.stretching.proofs.changed.Tie as tie
 
-add-result : tie.Need-add-result
-add-result c =
-    let at-entry = c .before in
-    omega (arith, at-entry .pre .0 (c .if1 .taken))
-
 sub-result : tie.Need-sub-result
-sub-result c =
-    let at-entry = c .before in
-    at-entry .pre .1 (c .if1 .left)
+sub-result c = c .before .pre .1 (c .if1 .left)
 
 returns : tie.Need-returns
-returns c =
-    let at-entry = c .before in
-    sym (ap (λ (b : Bool). by b (at-entry .args .a) (at-entry .args .d)) (c .if1 .taken))
+returns c = sym (ap (λ (b : Bool). by b (c .before .args .a) (c .before .args .d)) (c .if1 .taken))
 
 returns-2 : tie.Need-returns-2
-returns-2 c =
-    let at-entry = c .before in
-    sym (ap (λ (b : Bool). by b (at-entry .args .a) (at-entry .args .d)) (c .if1 .left))
+returns-2 c = sym (ap (λ (b : Bool). by b (c .before .args .a) (c .before .args .d)) (c .if1 .left))
 
 pub changed-spec : {M : Type 1} → statement M
-changed-spec = tie.close (tie.spec add-result sub-result returns returns-2)
+changed-spec = tie.close (tie.spec (λ c. omega (arith, c .before .pre .0 (c .if1 .taken))) sub-result returns
+    returns-2)

@@ -26,16 +26,8 @@ returns c =
     (not-true _ (c .if1 .taken))
 
 pub first-misfit-spec : {M : Type 1} → statement M
-first-misfit-spec =
-    tie.close
-    (tie.spec
-    (λ c κs. search needs)
-    returns
-    (λ c. search needs)
-    (λ c κs. ready (c .before .before))
-    (λ c. search needs)
+first-misfit-spec = tie.close (tie.spec (λ c κs. search needs)
+    returns (λ c. search needs) (λ c κs. ready (c .before .before)) (λ c. search needs)
     (λ c κs. ready (c .before .before))
     (λ c. none-misfit (c .before .all-fit .ensures) (c .if2 .taken))
-    (λ c κs. ready (c .before .before .before .before))
-    (λ c. search needs)
-    (λ c. search needs))
+    (λ c κs. ready (c .before .before .before .before)) (λ c. search needs) (λ c. search needs))

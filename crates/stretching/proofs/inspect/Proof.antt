@@ -41,18 +41,9 @@ returns-3 c =
     (found .first-misfit .ensures) (c .if1 .left)
 
 pub inspect-spec : {M : Type 1} → statement M
-inspect-spec =
-    tie.close
-    (tie.spec
-    (λ c. search needs)
-    (λ c κs. search needs)
-    (λ c. search needs)
-    (λ c. search needs)
+inspect-spec = tie.close (tie.spec (λ c. search needs) (λ c κs. search needs) (λ c. search needs) (λ c. search needs)
     first-misfit-requires
-    cast-t21
-    (λ c. search needs)
-    returns
-    (λ c. search needs)
-    returns-2
-    (λ c. search needs)
+    cast-t21 (λ c. search needs)
+    returns (λ c. search needs)
+    returns-2 (λ c. search needs)
     returns-3)

@@ -11,13 +11,5 @@ returns c =
     lengthened-at _ _ _ _ _ _ _ (limits .large-limits .ensures) (done .lengthen-within .ensures)
 
 pub lengthen-spec : {M : Type 1} → statement M
-lengthen-spec =
-    tie.close
-    (tie.spec
-    (λ c κs. search needs)
-    (λ c κs. search needs)
-    (λ c. search needs)
-    (λ c. search needs)
-    (λ c. search needs)
-    (λ c. search needs)
-    returns)
+lengthen-spec = tie.close (tie.spec (λ c κs. search needs) (λ c κs. search needs) (λ c. search needs)
+    (λ c. search needs) (λ c. search needs) (λ c. search needs) returns)

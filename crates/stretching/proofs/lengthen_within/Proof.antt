@@ -53,27 +53,10 @@ returns-3 c =
     (near .if1 .left) (new .stretch .ensures)
 
 pub lengthen-within-spec : {M : Type 1} → statement M
-lengthen-within-spec =
-    tie.close
-    (tie.spec
+lengthen-within-spec = tie.close (tie.spec (λ c. search needs) (λ c κs. search needs) (λ c. search needs)
     (λ c. search needs)
-    (λ c κs. search needs)
-    (λ c. search needs)
-    (λ c. search needs)
-    too-far-requires
-    (λ c. search needs)
-    (λ c. search needs)
-    (λ c. search needs)
-    (λ c. search needs)
+    too-far-requires (λ c. search needs) (λ c. search needs) (λ c. search needs) (λ c. search needs)
     returns
-    stretch-requires
-    (λ c. search needs)
-    (λ c. search needs)
-    (λ c. search needs)
-    (λ c. search needs)
-    returns-2
-    (λ c. search needs)
-    (λ c. search needs)
-    (λ c. search needs)
-    (λ c. search needs)
+    stretch-requires (λ c. search needs) (λ c. search needs) (λ c. search needs) (λ c. search needs)
+    returns-2 (λ c. search needs) (λ c. search needs) (λ c. search needs) (λ c. search needs)
     returns-3)

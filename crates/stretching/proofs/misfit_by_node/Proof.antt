@@ -50,16 +50,5 @@ returns-2 : tie.Need-returns-2 Inv-loop μ-loop
 returns-2 c = below-end (c .before .loop .inv) (c .loop-test .left)
 
 pub misfit-by-node-spec : {M : Type 1} → statement M
-misfit-by-node-spec =
-    tie.close
-    (tie.spec
-    Inv-loop
-    μ-loop
-    loop-holds
-    edge-slope-requires
-    node-fits-requires
-    returns
-    (λ c. omega arith)
-    (λ c. omega arith)
-    loop-again
-    returns-2)
+misfit-by-node-spec = tie.close (tie.spec Inv-loop μ-loop loop-holds edge-slope-requires node-fits-requires returns
+    (λ c. omega arith) (λ c. omega arith) loop-again returns-2)

@@ -13,112 +13,73 @@ Inv-loop parent rank work places₀ v d longer n last j₀ places j =
 abbrev μ-loop : tie.MeasureT-loop
 μ-loop parent rank work places₀ v d longer n last j₀ places j = last - j
 
-get-requires : tie.Need-get-requires Inv-loop μ-loop
-get-requires c κs = omega arith
+abbrev start : tie.After-get Inv-loop μ-loop → tie.Start Inv-loop μ-loop
+start c = c .before .before .before .before .before
 
-mul-get : tie.Need-mul-get Inv-loop μ-loop
-mul-get c = omega arith
+-- once the node of this turn is found
+module _ (c : tie.After-get3 Inv-loop μ-loop) where
+  abbrev going-on : tie.In-loop Inv-loop μ-loop
+  going-on = c .before
 
-add-get : tie.Need-add-get Inv-loop μ-loop
-add-get c = omega arith
+  abbrev turn : tie.At-loop Inv-loop μ-loop
+  turn = going-on .before
 
-get-requires-2 : tie.Need-get-requires-2 Inv-loop μ-loop
-get-requires-2 c κs = omega arith
+abbrev found : tie.After-get4 Inv-loop μ-loop → tie.After-get3 Inv-loop μ-loop
+found c = c .before .before
 
 sub-j : tie.Need-sub-j Inv-loop μ-loop
 sub-j c =
-    let at-entry = c .before .before .before .before .before .before in
-    first-some (at-entry .pre .0) _ (at-entry .pre .2) (c .get2 .ensures .0)
+    let given = start (c .before) in
+    first-some (given .pre .0) _ (given .pre .2) (c .get2 .ensures .0)
 
 loop-holds : tie.Need-loop-holds Inv-loop μ-loop
 loop-holds c =
-    let at-get = c .before in
-    let at-entry = at-get .before .before .before .before .before in
-    moving-start (at-entry .pre .0) (at-entry .pre .1) (at-entry .pre .2) (at-get .get .ensures .0)
-    (c .get2 .ensures .0)
-
-mul-get-2 : tie.Need-mul-get-2 Inv-loop μ-loop
-mul-get-2 c = omega arith
-
-add-get-2 : tie.Need-add-get-2 Inv-loop μ-loop
-add-get-2 c = omega arith
-
-get-requires-3 : tie.Need-get-requires-3 Inv-loop μ-loop
-get-requires-3 c κs = omega arith
+    let given = start (c .before) in
+    moving-start (given .pre .0) (given .pre .1) (given .pre .2) (c .before .get .ensures .0) (c .get2 .ensures .0)
 
 get-requires-4 : tie.Need-get-requires-4 Inv-loop μ-loop
 get-requires-4 c κs =
-    let at-get3 = c .before in
-    let at-loop-test = at-get3 .before in
-    let at-loop = at-loop-test .before in
-    let node = walk-node (at-loop .loop .inv .walk) (at-loop-test .loop-test .taken) (at-get3 .get3 .ensures .0) in
+    let node = walk-node (turn (c .before) .loop .inv .walk) (going-on (c .before) .loop-test .taken)
+    (c .before .get3 .ensures .0) in
     omega arith
 
 changed-requires : tie.Need-changed-requires Inv-loop μ-loop
 changed-requires c κs =
-    let at-get4 = c .before in
-    let at-get3 = at-get4 .before .before in
-    let at-loop-test = at-get3 .before in
-    let at-loop = at-loop-test .before in
-    let node = walk-node (at-loop .loop .inv .walk) (at-loop-test .loop-test .taken) (at-get3 .get3 .ensures .0) in
-    moving-can (at-loop .loop .inv) node (at-get4 .get4 .ensures .0)
+    let at-get3 = found (c .before) in
+    let node = walk-node (turn at-get3 .loop .inv .walk) (going-on at-get3 .loop-test .taken)
+    (at-get3 .get3 .ensures .0) in
+    moving-can (turn at-get3 .loop .inv) node (c .before .get4 .ensures .0)
 
 put-requires : tie.Need-put-requires Inv-loop μ-loop
 put-requires c κs =
-    let at-get4 = c .before .before in
-    let at-get3 = at-get4 .before .before in
-    let at-loop-test = at-get3 .before in
-    let at-loop = at-loop-test .before in
-    let node = walk-node (at-loop .loop .inv .walk) (at-loop-test .loop-test .taken) (at-get3 .get3 .ensures .0) in
-    let fits = moving-fits (at-loop .loop .inv) node (at-get4 .get4 .ensures .0) (at-get4 .get4 .ensures .1) in
+    let its-place = c .before .before in
+    let at-loop = turn (found its-place) in
+    let node = walk-node (at-loop .loop .inv .walk) (going-on (found its-place) .loop-test .taken)
+    (found its-place .get3 .ensures .0) in
+    let fits = moving-fits (at-loop .loop .inv) node (its-place .get4 .ensures .0) (its-place .get4 .ensures .1) in
     (omega arith, omega arith)
-
-add-j : tie.Need-add-j Inv-loop μ-loop
-add-j c = omega arith
-
-loop-less : tie.Need-loop-less Inv-loop μ-loop
-loop-less c = omega arith
 
 loop-again : tie.Need-loop-again Inv-loop μ-loop
 loop-again c =
-    let at-put = c .before .before in
-    let at-changed = at-put .before in
-    let at-get4 = at-changed .before .before in
-    let at-get3 = at-get4 .before .before in
-    let at-loop-test = at-get3 .before in
-    let at-loop = at-loop-test .before in
-    let node = walk-node (at-loop .loop .inv .walk) (at-loop-test .loop-test .taken) (at-get3 .get3 .ensures .0) in
-    moving-step (at-loop .loop .inv) (at-loop-test .loop-test .taken) node (at-get4 .get4 .ensures .0)
-    (at-changed .changed .ensures) (at-put .put .ensures)
-
-same-length : tie.Need-same-length Inv-loop μ-loop
-same-length c = omega arith
+    let moved = c .before .before in
+    let its-place = moved .before .before .before in
+    let at-loop-test = going-on (found its-place) in
+    let at-loop = turn (found its-place) in
+    let node = walk-node (at-loop .loop .inv .walk) (at-loop-test .loop-test .taken)
+    (found its-place .get3 .ensures .0) in
+    moving-step (at-loop .loop .inv) (at-loop-test .loop-test .taken) node (its-place .get4 .ensures .0)
+    (moved .before .changed .ensures) (moved .put .ensures)
 
 returns : tie.Need-returns Inv-loop μ-loop
-returns c =
-    let at-loop = c .before in
-    moving-end (at-loop .loop .inv) (c .loop-test .left)
+returns c = moving-end (c .before .loop .inv) (c .loop-test .left)
 
 pub move-subtree-spec : {M : Type 1} → statement M
-move-subtree-spec =
-    tie.close
-    (tie.spec
-    Inv-loop
-    μ-loop
-    get-requires
-    mul-get
-    add-get
-    get-requires-2
+move-subtree-spec = tie.close (tie.spec Inv-loop μ-loop (λ c κs. omega arith) (λ c. omega arith) (λ c. omega arith)
+    (λ c κs. omega arith)
     sub-j
-    loop-holds
-    mul-get-2
-    add-get-2
-    get-requires-3
+    loop-holds (λ c. omega arith) (λ c. omega arith) (λ c κs. omega arith)
     get-requires-4
     changed-requires
-    put-requires
-    add-j
-    loop-less
-    loop-again
-    same-length
+    put-requires (λ c. omega arith) (λ c. omega arith)
+    loop-again (λ c. omega arith)
     returns)

@@ -64,15 +64,5 @@ returns-3 c =
     (not-false _ (up .before .if2 .left)) (up .product2 .ensures .0) (c .placed2 .ensures)
 
 pub node-fits-spec : {M : Type 1} → statement M
-node-fits-spec =
-    tie.close
-    (tie.spec
-    (λ c κs. search needs)
-    returns
-    (λ c κs. search needs)
-    (λ c κs. search needs)
-    placed-requires
-    returns-2
-    (λ c κs. search needs)
-    placed-requires-2
-    returns-3)
+node-fits-spec = tie.close (tie.spec (λ c κs. search needs) returns (λ c κs. search needs) (λ c κs. search needs)
+    placed-requires returns-2 (λ c κs. search needs) placed-requires-2 returns-3)

@@ -12,97 +12,55 @@ Inv-loop limit parent rank work places v d n last j₀ j = Clear limit parent ra
 abbrev μ-loop : tie.MeasureT-loop
 μ-loop limit parent rank work places v d n last j₀ j = last - j
 
-get-requires : tie.Need-get-requires Inv-loop μ-loop
-get-requires c κs = omega arith
+abbrev start : tie.After-get Inv-loop μ-loop → tie.Start Inv-loop μ-loop
+start c = c .before .before .before .before .before
 
-mul-get : tie.Need-mul-get Inv-loop μ-loop
-mul-get c = omega arith
+-- once the node of this turn is found
+module _ (c : tie.After-get3 Inv-loop μ-loop) where
+  abbrev going-on : tie.In-loop Inv-loop μ-loop
+  going-on = c .before
 
-add-get : tie.Need-add-get Inv-loop μ-loop
-add-get c = omega arith
-
-get-requires-2 : tie.Need-get-requires-2 Inv-loop μ-loop
-get-requires-2 c κs = omega arith
+  abbrev turn : tie.At-loop Inv-loop μ-loop
+  turn = going-on .before
 
 sub-j : tie.Need-sub-j Inv-loop μ-loop
 sub-j c =
-    let at-entry = c .before .before .before .before .before .before in
-    first-some (at-entry .pre .0) _ (at-entry .pre .2) (c .get2 .ensures .0)
+    let given = start (c .before) in
+    first-some (given .pre .0) _ (given .pre .2) (c .get2 .ensures .0)
 
 loop-holds : tie.Need-loop-holds Inv-loop μ-loop
 loop-holds c =
-    let at-get = c .before in
-    let at-entry = at-get .before .before .before .before .before in
-    clear-start _ _ _ (at-entry .pre .0) (at-entry .pre .1) (at-entry .pre .2) (at-get .get .ensures .0)
+    let given = start (c .before) in
+    clear-start _ _ _ (given .pre .0) (given .pre .1) (given .pre .2) (c .before .get .ensures .0)
     (c .get2 .ensures .0)
-
-mul-get-2 : tie.Need-mul-get-2 Inv-loop μ-loop
-mul-get-2 c = omega arith
-
-add-get-2 : tie.Need-add-get-2 Inv-loop μ-loop
-add-get-2 c = omega arith
-
-get-requires-3 : tie.Need-get-requires-3 Inv-loop μ-loop
-get-requires-3 c κs = omega arith
 
 get-requires-4 : tie.Need-get-requires-4 Inv-loop μ-loop
 get-requires-4 c κs =
-    let at-loop-test = c .before in
-    let at-loop = at-loop-test .before in
-    let node = walk-node (at-loop .loop .inv .walk) (at-loop-test .loop-test .taken) (c .get3 .ensures .0) in
+    let node = walk-node (turn c .loop .inv .walk) (going-on c .loop-test .taken) (c .get3 .ensures .0) in
     omega arith
-
-add-if1 : tie.Need-add-if1 Inv-loop μ-loop
-add-if1 c = omega arith
 
 returns : tie.Need-returns Inv-loop μ-loop
 returns c =
-    let at-get4 = c .before in
-    let at-get3 = at-get4 .before in
-    let at-loop-test = at-get3 .before in
-    let at-loop = at-loop-test .before in
-    let node = walk-node (at-loop .loop .inv .walk) (at-loop-test .loop-test .taken) (at-get3 .get3 .ensures .0) in
-    passes-yes node (at-get4 .get4 .ensures .0) (c .if1 .taken)
-
-add-j : tie.Need-add-j Inv-loop μ-loop
-add-j c = omega arith
-
-loop-less : tie.Need-loop-less Inv-loop μ-loop
-loop-less c = omega arith
+    let found = c .before .before in
+    let node = walk-node (turn found .loop .inv .walk) (going-on found .loop-test .taken) (found .get3 .ensures .0) in
+    passes-yes node (c .before .get4 .ensures .0) (c .if1 .taken)
 
 loop-again : tie.Need-loop-again Inv-loop μ-loop
 loop-again c =
-    let at-get4 = c .before in
-    let at-get3 = at-get4 .before in
-    let at-loop-test = at-get3 .before in
-    let at-loop = at-loop-test .before in
-    let node = walk-node (at-loop .loop .inv .walk) (at-loop-test .loop-test .taken) (at-get3 .get3 .ensures .0) in
-    clear-step (at-loop .loop .inv) (at-loop-test .loop-test .taken) node (at-get4 .get4 .ensures .0) (c .if1 .left)
+    let found = c .before .before in
+    let node = walk-node (turn found .loop .inv .walk) (going-on found .loop-test .taken) (found .get3 .ensures .0) in
+    clear-step (turn found .loop .inv) (going-on found .loop-test .taken) node (c .before .get4 .ensures .0)
+    (c .if1 .left)
 
 returns-2 : tie.Need-returns-2 Inv-loop μ-loop
-returns-2 c =
-    let at-loop = c .before in
-    clear-end (at-loop .loop .inv) (c .loop-test .left)
+returns-2 c = clear-end (c .before .loop .inv) (c .loop-test .left)
 
 pub passes-spec : {M : Type 1} → statement M
-passes-spec =
-    tie.close
-    (tie.spec
-    Inv-loop
-    μ-loop
-    get-requires
-    mul-get
-    add-get
-    get-requires-2
+passes-spec = tie.close (tie.spec Inv-loop μ-loop (λ c κs. omega arith) (λ c. omega arith) (λ c. omega arith)
+    (λ c κs. omega arith)
     sub-j
-    loop-holds
-    mul-get-2
-    add-get-2
-    get-requires-3
-    get-requires-4
-    add-if1
-    returns
-    add-j
-    loop-less
+    loop-holds (λ c. omega arith) (λ c. omega arith) (λ c κs. omega arith)
+    get-requires-4 (λ c. omega arith)
+    returns (λ c. omega arith) (λ c. omega arith)
     loop-again
     returns-2)

@@ -11,13 +11,5 @@ returns c =
     shortened-at _ _ _ _ _ _ _ (limits .large-limits .ensures) (done .shorten-within .ensures)
 
 pub shorten-spec : {M : Type 1} → statement M
-shorten-spec =
-    tie.close
-    (tie.spec
-    (λ c κs. search needs)
-    (λ c κs. search needs)
-    (λ c. search needs)
-    (λ c. search needs)
-    (λ c. search needs)
-    (λ c. search needs)
-    returns)
+shorten-spec = tie.close (tie.spec (λ c κs. search needs) (λ c κs. search needs) (λ c. search needs)
+    (λ c. search needs) (λ c. search needs) (λ c. search needs) returns)

@@ -75,19 +75,10 @@ returns c =
     (across .move-subtree .ensures) (up .move-subtree2 .ensures) (c .frame-of .ensures)
 
 pub stretch-spec : {M : Type 1} → statement M
-stretch-spec =
-    tie.close
-    (tie.spec
-    edge-slope-requires
-    (λ c κs. search needs)
-    move-subtree-requires
-    (λ c κs. search needs)
-    move-subtree-requires-2
-    (λ c κs. search needs)
+stretch-spec = tie.close (tie.spec
+    edge-slope-requires (λ c κs. search needs)
+    move-subtree-requires (λ c κs. search needs)
+    move-subtree-requires-2 (λ c κs. search needs)
     changed-requires
-    put-requires
-    (λ c κs. search needs)
-    (λ c. search needs)
-    (λ c. search needs)
-    (λ c. search needs)
+    put-requires (λ c κs. search needs) (λ c. search needs) (λ c. search needs) (λ c. search needs)
     returns)

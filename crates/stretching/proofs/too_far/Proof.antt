@@ -46,13 +46,5 @@ returns-2 c =
     (c .passes2 .ensures)
 
 pub too-far-spec : {M : Type 1} → statement M
-too-far-spec =
-    tie.close
-    (tie.spec
-    edge-slope-requires
-    (λ c κs. search needs)
-    passes-requires
-    returns
-    (λ c κs. search needs)
-    passes-requires-2
-    returns-2)
+too-far-spec = tie.close (tie.spec edge-slope-requires (λ c κs. search needs) passes-requires returns
+    (λ c κs. search needs) passes-requires-2 returns-2)
