@@ -4,6 +4,9 @@ use Rattle.direction.proofs.Replies.{no-first, no-second, one-node, two
 use Rattle.direction.proofs.accepted.Statement.{statement}
 use Rattle.direction.proofs.accepted.Tie as tie
 
+abbrev start : tie.Else1 → tie.Start
+start c = c .before .before .before .before
+
 returns : tie.Need-returns
 returns c =
     let args = c .before .before .before .before .args in
@@ -11,25 +14,16 @@ returns c =
 
 returns-2 : tie.Need-returns-2
 returns-2 c =
-    let args = c .before .before .before .before .before .args in
+    let args = start (c .before) .args in
     no-second (args .parent .now) (args .rank .now) (args .rule) (args .u) (args .v) (c .if2 .taken)
 
 returns-3 : tie.Need-returns-3
 returns-3 c =
     let second = c .before in
     let first = second .before in
-    let args = first .before .before .before .before .args in
-    one-node (args .parent .now) (args .rank .now) (args .rule) (args .u) (args .v)
-    (first .if1 .left) (second .if2 .left) (c .if3 .taken)
-
-number-requires : tie.Need-number-requires
-number-requires c κs = search needs
-
-heading-of-requires : tie.Need-heading-of-requires
-heading-of-requires c κs = search needs
-
-same-length : tie.Need-same-length
-same-length c = search needs
+    let args = start first .args in
+    one-node (args .parent .now) (args .rank .now) (args .rule) (args .u) (args .v) (first .if1 .left)
+    (second .if2 .left) (c .if3 .taken)
 
 returns-4 : tie.Need-returns-4
 returns-4 c =
@@ -37,11 +31,10 @@ returns-4 c =
     let different = numbered .before .before in
     let second = different .before in
     let first = second .before in
-    let args = first .before .before .before .before .args in
-    two-nodes (args .parent .now) (args .rank .now) (args .rule) (args .u) (args .v)
-    (first .if1 .left) (second .if2 .left) (different .if3 .left) (c .heading-of .ensures)
+    let args = start first .args in
+    two-nodes (args .parent .now) (args .rank .now) (args .rule) (args .u) (args .v) (first .if1 .left)
+    (second .if2 .left) (different .if3 .left) (c .heading-of .ensures)
 
 pub accepted-spec : {M : Type 1} → statement M
-accepted-spec =
-    tie.close
-    (tie.spec returns returns-2 returns-3 number-requires heading-of-requires same-length returns-4)
+accepted-spec = tie.close (tie.spec returns returns-2 returns-3 (λ c κs. search needs) (λ c κs. search needs)
+    (λ c. search needs) returns-4)

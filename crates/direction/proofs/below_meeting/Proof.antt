@@ -12,6 +12,9 @@ Inv-loop parent rank work u v z₀ z = Ascending parent u v z
 abbrev μ-loop : tie.MeasureT-loop
 μ-loop parent rank work u v z₀ z = depth parent z
 
+abbrev start : tie.At-loop Inv-loop μ-loop → tie.Start Inv-loop μ-loop
+start c = c .before .before .before .before
+
 loop-holds : tie.Need-loop-holds Inv-loop μ-loop
 loop-holds c =
     let entry = c .before .before .before in
@@ -19,40 +22,34 @@ loop-holds c =
 
 get-requires : tie.Need-get-requires Inv-loop μ-loop
 get-requires c κs =
-    let entry = c .before .before .before .before in
+    let entry = start c in
     ascending-inside (entry .pre .0) (entry .pre .1) (c .loop .inv)
 
 in-subtree-requires : tie.Need-in-subtree-requires Inv-loop μ-loop
 in-subtree-requires c κs =
-    let at-loop = c .before in
-    let entry = at-loop .before .before .before .before in
-    (entry .pre .0, ascending-pair (entry .pre .0) (entry .pre .1) (at-loop .loop .inv) (c .get .ensures .0))
+    let entry = start (c .before) in
+    (entry .pre .0, ascending-pair (entry .pre .0) (entry .pre .1) (c .before .loop .inv) (c .get .ensures .0))
 
 returns : tie.Need-returns Inv-loop μ-loop
 returns c =
-    let at-test = c .before in
-    let at-parent = at-test .before in
-    let at-loop = at-parent .before in
-    let entry = at-loop .before .before .before .before in
-    ascending-end (entry .pre .0) (entry .pre .1) (at-loop .loop .inv) (at-parent .get .ensures .0)
-    (sym (at-test .in-subtree .ensures) ∙ c .if1 .taken)
+    let its-parent = c .before .before in
+    let turn = its-parent .before in
+    ascending-end (start turn .pre .0) (start turn .pre .1) (turn .loop .inv) (its-parent .get .ensures .0)
+    (sym (c .before .in-subtree .ensures) ∙ c .if1 .taken)
 
 loop-less : tie.Need-loop-less Inv-loop μ-loop
 loop-less c =
-    let at-parent = c .before .before in
-    let at-loop = at-parent .before in
-    let entry = at-loop .before .before .before .before in
-    ascending-less (entry .pre .0) (entry .pre .1) (at-loop .loop .inv) (at-parent .get .ensures .0)
+    let its-parent = c .before .before in
+    let turn = its-parent .before in
+    ascending-less (start turn .pre .0) (start turn .pre .1) (turn .loop .inv) (its-parent .get .ensures .0)
 
 loop-again : tie.Need-loop-again Inv-loop μ-loop
 loop-again c =
-    let at-test = c .before in
-    let at-parent = at-test .before in
-    let at-loop = at-parent .before in
-    let entry = at-loop .before .before .before .before in
-    ascending-step (entry .pre .0) (entry .pre .1) (at-loop .loop .inv) (at-parent .get .ensures .0)
-    (sym (at-test .in-subtree .ensures) ∙ c .if1 .left)
+    let its-parent = c .before .before in
+    let turn = its-parent .before in
+    ascending-step (start turn .pre .0) (start turn .pre .1) (turn .loop .inv) (its-parent .get .ensures .0)
+    (sym (c .before .in-subtree .ensures) ∙ c .if1 .left)
 
 pub below-meeting-spec : {M : Type 1} → statement M
-below-meeting-spec =
-    tie.close (tie.spec Inv-loop μ-loop loop-holds get-requires in-subtree-requires returns loop-less loop-again)
+below-meeting-spec = tie.close (tie.spec Inv-loop μ-loop loop-holds get-requires in-subtree-requires returns
+    loop-less loop-again)

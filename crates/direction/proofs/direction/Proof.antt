@@ -4,64 +4,40 @@ use Rattle.direction.proofs.Replies.{table-refused, table-ready, table-
 use Rattle.direction.proofs.direction.Statement.{statement}
 use Rattle.direction.proofs.direction.Tie as tie
 
-large-limits-requires : tie.Need-large-limits-requires
-large-limits-requires c κs = search needs
+-- once the table is tested
+module _ (c : tie.After-validate) where
+  abbrev limited : tie.After-large-limits
+  limited = c .before .before
 
-validate-requires : tie.Need-validate-requires
-validate-requires c κs = search needs
-
-enum-known-number : tie.Need-enum-known-number
-enum-known-number c = search needs
-
-enum-told : tie.Need-enum-told
-enum-told c = search needs
+  abbrev start : tie.Start
+  start = limited .before .before .before .before
 
 accepted-requires : tie.Need-accepted-requires
 accepted-requires c κs =
-    let told = c .before in
-    let at-validate = told .before .before .before .before in
-    let at-limits = at-validate .before .before in
-    let args = at-limits .before .before .before .before .args in
+    let validated = c .before .before .before .before .before in
+    let args = start validated .args in
     table-ready (args .parent .now) (args .rank .now) (args .rule) (args .from) (args .to)
-    (at-limits .large-limits .ensures) (at-validate .validate .ensures) (told .enum-told .given .1)
-
-same-length : tie.Need-same-length
-same-length c = search needs
+    (limited validated .large-limits .ensures) (validated .validate .ensures) (c .before .enum-told .given .1)
 
 returns : tie.Need-returns
 returns c =
-    let known = c .before in
-    let at-validate = known .before .before .before .before in
-    let at-limits = at-validate .before .before in
-    let args = at-limits .before .before .before .before .args in
+    let validated = c .before .before .before .before .before in
+    let args = start validated .args in
     table-refused (args .parent .now) (args .rank .now) (args .rule) (args .from) (args .to)
-    (at-limits .large-limits .ensures) (at-validate .validate .ensures)
-    (known .number .given .0 .0) (known .number .given .0 .1 .0) (known .number .given .1)
-
-same-length-2 : tie.Need-same-length-2
-same-length-2 c = search needs
+    (limited validated .large-limits .ensures) (validated .validate .ensures) (c .before .number .given .0 .0)
+    (c .before .number .given .0 .1 .0) (c .before .number .given .1)
 
 returns-2 : tie.Need-returns-2
 returns-2 c =
     let at-accepted = c .before .before in
     let told = at-accepted .before .before in
-    let at-validate = told .before .before .before .before in
-    let at-limits = at-validate .before .before in
-    let args = at-limits .before .before .before .before .args in
+    let validated = told .before .before .before .before in
+    let at-limits = limited validated in
+    let args = start validated .args in
     table-accepted (args .parent .now) (args .rank .now) (args .rule) (args .from) (args .to)
-    (at-limits .large-limits .ensures) (at-validate .validate .ensures) (told .enum-told .given .1)
-    _ (search needs) (at-accepted .accepted .ensures)
+    (at-limits .large-limits .ensures) (validated .validate .ensures) (told .enum-told .given .1) _ (search needs)
+    (at-accepted .accepted .ensures)
 
 pub direction-spec : {M : Type 1} → statement M
-direction-spec =
-    tie.close
-    (tie.spec
-    large-limits-requires
-    validate-requires
-    enum-known-number
-    enum-told
-    accepted-requires
-    same-length
-    returns
-    same-length-2
-    returns-2)
+direction-spec = tie.close (tie.spec (λ c κs. search needs) (λ c κs. search needs) (λ c. search needs)
+    (λ c. search needs) accepted-requires (λ c. search needs) returns (λ c. search needs) returns-2)

@@ -4,9 +4,6 @@ use Rattle.direction.proofs.Signs32.{minus-fits, minus-is}
 use Rattle.direction.proofs.minus.Statement.{statement}
 use Rattle.direction.proofs.minus.Tie as tie
 
-cast-result : tie.Need-cast-result
-cast-result c = search needs
-
 sub-result : tie.Need-sub-result
 sub-result c = minus-fits (c .args .n) (c .pre)
 
@@ -14,4 +11,4 @@ returns : tie.Need-returns
 returns c = minus-is (c .args .n) (c .pre)
 
 pub minus-spec : {M : Type 1} → statement M
-minus-spec = tie.close (tie.spec cast-result sub-result returns)
+minus-spec = tie.close (tie.spec (λ c. search needs) sub-result returns)

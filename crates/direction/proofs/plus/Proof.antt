@@ -5,11 +5,8 @@ use mir.ValLaws.{toZ-pos}
 use Rattle.direction.proofs.plus.Statement.{statement}
 use Rattle.direction.proofs.plus.Tie as tie
 
-cast-result : tie.Need-cast-result
-cast-result c = search needs
-
 returns : tie.Need-returns
 returns c = toZ-pos w32 (c .args .n) (c .pre)
 
 pub plus-spec : {M : Type 1} → statement M
-plus-spec = tie.close (tie.spec cast-result returns)
+plus-spec = tie.close (tie.spec (λ c. search needs) returns)

@@ -54,16 +54,6 @@ returns-2 c =
     (slopes .before .edge-slope3 .ensures) (slopes .edge-slope4 .ensures) (c .turned2 .ensures)
 
 pub sideways-of-spec : {M : Type 1} → statement M
-sideways-of-spec =
-    tie.close
-    (tie.spec
-    (λ c κs. search needs)
-    (λ c κs. search needs)
-    (λ c κs. search needs)
-    (λ c κs. search needs)
-    turned-requires
-    returns
-    (λ c κs. search needs)
-    (λ c κs. search needs)
-    turned-requires-2
+sideways-of-spec = tie.close (tie.spec (λ c κs. search needs) (λ c κs. search needs) (λ c κs. search needs)
+    (λ c κs. search needs) turned-requires returns (λ c κs. search needs) (λ c κs. search needs) turned-requires-2
     returns-2)
