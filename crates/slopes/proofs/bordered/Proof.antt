@@ -34,8 +34,5 @@ returns-3 c =
     c .descend .ensures ∙ sym (bordered-is (start .args .k) (start .args .j) (omega arith) (omega arith))
 
 pub bordered-spec : {M : Type 1} → statement M
-bordered-spec = tie.close (tie.spec
-    returns (λ c. search needs)
-    returns-2 (λ c. search needs)
-    descend-requires
+bordered-spec = tie.close (tie.spec returns (λ c. search needs) returns-2 (λ c. search needs) descend-requires
     returns-3)

@@ -39,7 +39,4 @@ returns-2 c =
 
 pub bordered-at-spec : {M : Type 1} → statement M
 bordered-at-spec = tie.close (tie.spec (λ c. search needs) (λ c κs. search needs) (λ c. search needs)
-    (λ c κs. search needs)
-    bordered-requires
-    returns
-    returns-2)
+    (λ c κs. search needs) bordered-requires returns returns-2)

@@ -13,6 +13,4 @@ returns : tie.Need-returns
 returns c = sym (levelsFor-leading 32 (c .args .n) (c .pre .0) (c .pre .1))
 
 pub levels-for-spec : {M : Type 1} → statement M
-levels-for-spec = tie.close (tie.spec (λ c. search needs) (λ c. search needs)
-    sub-result-2
-    returns)
+levels-for-spec = tie.close (tie.spec (λ c. search needs) (λ c. search needs) sub-result-2 returns)

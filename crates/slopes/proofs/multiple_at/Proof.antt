@@ -10,5 +10,4 @@ returns c = (refl, omega (arith, trailing-le 32 (c .args .j)))
 
 pub multiple-at-spec : {M : Type 1} → statement M
 multiple-at-spec = tie.close (tie.spec (λ c. omega (arith, trailing-le 32 (c .args .j)))
-    (λ c. omega (arith, trailing-le 32 (c .args .j))) (λ c. omega (arith, trailing-le 32 (c .args .j)))
-    returns)
+    (λ c. omega (arith, trailing-le 32 (c .args .j))) (λ c. omega (arith, trailing-le 32 (c .args .j))) returns)

@@ -38,7 +38,4 @@ returns-2 c =
 
 pub slope-at-spec : {M : Type 1} → statement M
 slope-at-spec = tie.close (tie.spec (λ c. search needs) (λ c κs. search needs) (λ c. search needs)
-    (λ c κs. search needs) (λ c. search needs)
-    descend-requires
-    returns
-    returns-2)
+    (λ c κs. search needs) (λ c. search needs) descend-requires returns returns-2)

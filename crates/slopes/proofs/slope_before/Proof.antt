@@ -39,8 +39,5 @@ returns-2 c =
 
 pub slope-before-spec : {M : Type 1} → statement M
 slope-before-spec = tie.close (tie.spec (λ c. search needs) (λ c. search needs) (λ c κs. search needs)
-    (λ c. search needs) (λ c. search needs) (λ c κs. search needs)
-    part-before-requires
-    part-before-requires-2
-    returns
-    returns-2)
+    (λ c. search needs) (λ c. search needs) (λ c κs. search needs) part-before-requires part-before-requires-2
+    returns returns-2)

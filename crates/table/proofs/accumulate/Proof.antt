@@ -13,6 +13,7 @@ Inv-loop parent work₀ n p₀ work p = Accumulating parent work₀ work p
 abbrev μ-loop : tie.MeasureT-loop
 μ-loop parent work₀ n p₀ work p = length parent - p
 
+-- once the sum so far and the count are read
 module _ (c : tie.After-get2 Inv-loop μ-loop) where
   abbrev sum : tie.After-get Inv-loop μ-loop
   sum = c .before .before

@@ -21,6 +21,4 @@ returns c = zeroing-end (c .before .loop .inv) (c .loop-test .left)
 
 pub clear-spec : {M : Type 1} → statement M
 clear-spec = tie.close (tie.spec Inv-loop μ-loop (λ c. omega arith) (λ c κs. omega arith) (λ c. omega arith)
-    (λ c. omega arith)
-    loop-again (λ c. omega arith)
-    returns)
+    (λ c. omega arith) loop-again (λ c. omega arith) returns)

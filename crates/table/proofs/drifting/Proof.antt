@@ -13,6 +13,7 @@ Inv-loop parent work₀ n v₀ work v = Drifting parent work₀ work v
 abbrev μ-loop : tie.MeasureT-loop
 μ-loop parent work₀ n v₀ work v = length parent - v
 
+-- once v's steps are counted
 module _ (c : tie.After-steps Inv-loop μ-loop) where
   abbrev going-on : tie.In-loop Inv-loop μ-loop
   going-on = c .before .before
@@ -53,10 +54,5 @@ returns-2 : tie.Need-returns-2 Inv-loop μ-loop
 returns-2 c = drifting-end (c .before .loop .inv) (c .loop-test .left)
 
 pub drifting-spec : {M : Type 1} → statement M
-drifting-spec = tie.close (tie.spec Inv-loop μ-loop
-    loop-holds
-    steps-requires (λ c. omega arith)
-    returns
-    mark-requires (λ c. omega arith) (λ c. omega arith)
-    loop-again (λ c. omega arith)
-    returns-2)
+drifting-spec = tie.close (tie.spec Inv-loop μ-loop loop-holds steps-requires (λ c. omega arith) returns
+    mark-requires (λ c. omega arith) (λ c. omega arith) loop-again (λ c. omega arith) returns-2)

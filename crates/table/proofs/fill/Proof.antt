@@ -13,6 +13,7 @@ Inv-loop parent rank work₀ n v₀ work v = Filling parent rank work v × (leng
 abbrev μ-loop : tie.MeasureT-loop
 μ-loop parent rank work₀ n v₀ work v = length parent - v
 
+-- once v's parent and rank are read
 module _ (c : tie.After-get2 Inv-loop μ-loop) where
   abbrev its-parent : tie.After-get Inv-loop μ-loop
   its-parent = c .before

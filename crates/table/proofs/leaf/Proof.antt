@@ -12,6 +12,7 @@ Inv-loop parent rank work v n u₀ s₀ u s = Descending parent rank work v u s
 abbrev μ-loop : tie.MeasureT-loop
 μ-loop parent rank work v n u₀ s₀ u s = size parent rank u
 
+-- once the node's slots are known
 module _ (c : tie.After-get2 Inv-loop μ-loop) where
   abbrev turn : tie.At-loop Inv-loop μ-loop
   turn = c .before
@@ -19,6 +20,7 @@ module _ (c : tie.After-get2 Inv-loop μ-loop) where
   abbrev start : tie.Start Inv-loop μ-loop
   start = turn .before .before .before .before .before
 
+-- once it has a first child
 module _ (c : tie.After-get3 Inv-loop μ-loop) where
   abbrev inner : tie.Then1 Inv-loop μ-loop
   inner = c .before

@@ -44,10 +44,5 @@ returns : tie.Need-returns Inv-loop μ-loop
 returns c = passing-end (start (c .before) .pre) (c .before .loop .inv) (c .loop-test .left)
 
 pub mark-spec : {M : Type 1} → statement M
-mark-spec = tie.close (tie.spec Inv-loop μ-loop
-    loop-holds
-    add-put
-    put-requires
-    get-requires (λ c. omega arith) (λ c. omega arith)
-    loop-again (λ c. omega arith)
-    returns)
+mark-spec = tie.close (tie.spec Inv-loop μ-loop loop-holds add-put put-requires get-requires (λ c. omega arith)
+    (λ c. omega arith) loop-again (λ c. omega arith) returns)

@@ -39,8 +39,5 @@ returns : tie.Need-returns Inv-loop μ-loop
 returns c = (seating-end (c .before .loop .inv .0) (omega arith), c .before .loop .inv .2)
 
 pub occupy-spec : {M : Type 1} → statement M
-occupy-spec = tie.close (tie.spec Inv-loop μ-loop
-    loop-holds
-    seat-requires (λ c. omega arith) (λ c. omega arith)
-    loop-again (λ c. omega arith)
-    returns)
+occupy-spec = tie.close (tie.spec Inv-loop μ-loop loop-holds seat-requires (λ c. omega arith) (λ c. omega arith)
+    loop-again (λ c. omega arith) returns)

@@ -32,7 +32,5 @@ returns c =
     (at-accumulate .accumulate .ensures)
 
 pub starts-spec : {M : Type 1} → statement M
-starts-spec = tie.close (tie.spec (λ c. search needs) (λ c κs. search needs)
-    tally-requires
-    accumulate-requires (λ c. search needs)
-    returns)
+starts-spec = tie.close (tie.spec (λ c. search needs) (λ c κs. search needs) tally-requires accumulate-requires
+    (λ c. search needs) returns)

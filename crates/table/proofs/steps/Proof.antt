@@ -37,8 +37,5 @@ returns-2 : tie.Need-returns-2 Inv-loop μ-loop
 returns-2 c = stepping-end (start (c .before) .pre .0) (c .before .loop .inv) (c .loop-test .left)
 
 pub steps-spec : {M : Type 1} → statement M
-steps-spec = tie.close (tie.spec Inv-loop μ-loop
-    loop-holds (λ c. omega arith) (λ c κs. omega arith)
-    returns (λ c κs. omega arith) (λ c. omega arith) (λ c. omega arith)
-    loop-again
-    returns-2)
+steps-spec = tie.close (tie.spec Inv-loop μ-loop loop-holds (λ c. omega arith) (λ c κs. omega arith) returns
+    (λ c κs. omega arith) (λ c. omega arith) (λ c. omega arith) loop-again returns-2)

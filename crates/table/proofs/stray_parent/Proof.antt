@@ -34,8 +34,5 @@ returns-2 : tie.Need-returns-2 Inv-loop μ-loop
 returns-2 c = least-is _ _ _ (omega arith) (λ k l. c .before .loop .inv .2 k (omega arith)) (λ l. absurd (omega arith))
 
 pub stray-parent-spec : {M : Type 1} → statement M
-stray-parent-spec = tie.close (tie.spec Inv-loop μ-loop
-    loop-holds (λ c κs. omega arith)
-    returns (λ c. omega arith) (λ c. omega arith)
-    loop-again
-    returns-2)
+stray-parent-spec = tie.close (tie.spec Inv-loop μ-loop loop-holds (λ c κs. omega arith) returns (λ c. omega arith)
+    (λ c. omega arith) loop-again returns-2)

@@ -13,6 +13,7 @@ Inv-loop parent work₀ n v₀ work v = Tallying parent work₀ work v
 abbrev μ-loop : tie.MeasureT-loop
 μ-loop parent work₀ n v₀ work v = length parent - v
 
+-- once v's parent is read
 module _ (c : tie.After-get Inv-loop μ-loop) where
   abbrev going-on : tie.In-loop Inv-loop μ-loop
   going-on = c .before

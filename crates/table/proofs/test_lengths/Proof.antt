@@ -35,14 +35,6 @@ returns-6 c =
     (c .if5 .left)
 
 pub test-lengths-spec : {M : Type 1} → statement M
-test-lengths-spec =
-    tie.close
-    (tie.spec
-    (λ c. search needs)
-    (λ c. refused-1 _ _ _ _ _ (c .if1 .taken))
-    (λ c. refused-2 _ _ _ _ _ (c .before .if1 .left) (c .if2 .taken))
-    returns-3
-    returns-4
-    (λ c. search needs)
-    returns-5
-    returns-6)
+test-lengths-spec = tie.close (tie.spec (λ c. search needs) (λ c. refused-1 _ _ _ _ _ (c .if1 .taken))
+    (λ c. refused-2 _ _ _ _ _ (c .before .if1 .left) (c .if2 .taken)) returns-3 returns-4 (λ c. search needs)
+    returns-5 returns-6)

@@ -25,14 +25,5 @@ returns-2 c =
     validated-tree _ _ _ _ _ (tested told .test-lengths .ensures) (told .enum-told .given .1) (tree .test-tree .ensures)
 
 pub validate-spec : {M : Type 1} → statement M
-validate-spec =
-    tie.close
-    (tie.spec
-    (λ c κs. search needs)
-    (λ c. search needs)
-    (λ c. search needs)
-    test-tree-requires
-    (λ c. search needs)
-    returns
-    (λ c. search needs)
-    returns-2)
+validate-spec = tie.close (tie.spec (λ c κs. search needs) (λ c. search needs) (λ c. search needs) test-tree-requires
+    (λ c. search needs) returns (λ c. search needs) returns-2)

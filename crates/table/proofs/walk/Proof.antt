@@ -62,12 +62,5 @@ returns c =
     walking-end (at-loop-test .before .loop .inv .0) (at-loop-test .loop-test .left) (at-visit2 .visit2 .ensures)
 
 pub walk-spec : {M : Type 1} → statement M
-walk-spec = tie.close (tie.spec Inv-loop μ-loop
-    leaf-requires
-    loop-holds
-    add-loop
-    visit-requires
-    next-requires (λ c. omega arith) (λ c. omega arith)
-    loop-again
-    visit-requires-2 (λ c. omega arith)
-    returns)
+walk-spec = tie.close (tie.spec Inv-loop μ-loop leaf-requires loop-holds add-loop visit-requires next-requires
+    (λ c. omega arith) (λ c. omega arith) loop-again visit-requires-2 (λ c. omega arith) returns)

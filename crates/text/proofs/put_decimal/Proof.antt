@@ -67,10 +67,5 @@ returns c =
     (first-put turn .put-byte .ensures)) (turn .loop .inv) (omega arith)
 
 pub put-decimal-spec : {M : Type 1} → statement M
-put-decimal-spec = tie.close (tie.spec Inv-loop μ-loop (λ c κs. omega arith)
-    digit-requires (λ c κs. omega arith)
-    loop-holds
-    digit-requires-2
-    put-byte-requires-2 (λ c. omega arith)
-    loop-again (λ c. omega arith)
-    returns)
+put-decimal-spec = tie.close (tie.spec Inv-loop μ-loop (λ c κs. omega arith) digit-requires (λ c κs. omega arith)
+    loop-holds digit-requires-2 put-byte-requires-2 (λ c. omega arith) loop-again (λ c. omega arith) returns)

@@ -24,6 +24,4 @@ returns c =
     appended-on (at-put-byte .before .before .before .before .put-decimal .ensures) (at-put-byte .put-byte .ensures)
 
 pub put-field-spec : {M : Type 1} → statement M
-put-field-spec = tie.close (tie.spec (λ c κs. omega arith)
-    put-byte-requires (λ c. omega arith)
-    returns)
+put-field-spec = tie.close (tie.spec (λ c κs. omega arith) put-byte-requires (λ c. omega arith) returns)

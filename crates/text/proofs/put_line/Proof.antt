@@ -6,6 +6,7 @@ use borrow.Author.Needs.{needs}
 use Rattle.text.proofs.put_line.Statement.{statement}
 use Rattle.text.proofs.put_line.Tie as tie
 
+-- once three numbers are written
 module _ (c : tie.After-put-field3) where
   abbrev second : tie.After-put-field2
   second = c .before .before .before .before
@@ -106,9 +107,5 @@ returns c =
     (third fourth .put-field3 .ensures) (fourth .put-field4 .ensures) (fifth .put-field5 .ensures)
 
 pub put-line-spec : {M : Type 1} → statement M
-put-line-spec = tie.close (tie.spec (λ c κs. search needs)
-    put-field-requires-2
-    put-field-requires-3
-    put-field-requires-4
-    put-field-requires-5 (λ c. search needs)
-    returns)
+put-line-spec = tie.close (tie.spec (λ c κs. search needs) put-field-requires-2 put-field-requires-3
+    put-field-requires-4 put-field-requires-5 (λ c. search needs) returns)

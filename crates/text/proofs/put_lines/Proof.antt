@@ -13,6 +13,7 @@ Inv-loop out₀ at x y u w n e₀ v₀ out e v = Listing (placesOf x y u w) (len
 abbrev μ-loop : tie.MeasureT-loop
 μ-loop out₀ at x y u w n e₀ v₀ out e v = length x - v
 
+-- once a lot's steep place is read
 module _ (c : tie.After-get2 Inv-loop μ-loop) where
   abbrev got-x : tie.After-get Inv-loop μ-loop
   got-x = c .before

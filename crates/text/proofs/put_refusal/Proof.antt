@@ -6,6 +6,7 @@ use borrow.Author.Needs.{needs}
 use Rattle.text.proofs.put_refusal.Statement.{statement}
 use Rattle.text.proofs.put_refusal.Tie as tie
 
+-- once the word and the number are written
 module _ (c : tie.After-put-field) where
   abbrev worded : tie.After-put-word
   worded = c .before .before .before .before
@@ -39,5 +40,4 @@ returns c =
 
 pub put-refusal-spec : {M : Type 1} → statement M
 put-refusal-spec = tie.close (tie.spec (λ c. search needs) (λ c κs. search needs) (λ c κs. search needs)
-    put-field-requires-2 (λ c. search needs)
-    returns)
+    put-field-requires-2 (λ c. search needs) returns)

@@ -16,6 +16,4 @@ returns c =
     (at-put-lines .put-lines .ensures)
 
 pub put-sheet-spec : {M : Type 1} → statement M
-put-sheet-spec = tie.close (tie.spec (λ c κs. search needs)
-    put-lines-requires (λ c. search needs)
-    returns)
+put-sheet-spec = tie.close (tie.spec (λ c κs. search needs) put-lines-requires (λ c. search needs) returns)

@@ -13,5 +13,4 @@ returns c =
 
 pub put-title-spec : {M : Type 1} → statement M
 put-title-spec = tie.close (tie.spec (λ c. search needs) (λ c κs. search needs) (λ c κs. search needs)
-    (λ c. search needs)
-    returns)
+    (λ c. search needs) returns)

@@ -27,7 +27,5 @@ returns : tie.Need-returns Inv-loop μ-loop
 returns c = copying-end (c .before .loop .inv) (c .loop-test .left)
 
 pub put-word-spec : {M : Type 1} → statement M
-put-word-spec = tie.close (tie.spec Inv-loop μ-loop
-    loop-holds (λ c. omega arith) (λ c κs. omega arith) (λ c. omega arith) (λ c. omega arith)
-    loop-again (λ c. omega arith)
-    returns)
+put-word-spec = tie.close (tie.spec Inv-loop μ-loop loop-holds (λ c. omega arith) (λ c κs. omega arith)
+    (λ c. omega arith) (λ c. omega arith) loop-again (λ c. omega arith) returns)

@@ -15,12 +15,6 @@ abbrev μ-loop : tie.MeasureT-loop
 loop-holds : tie.Need-loop-holds Inv-loop μ-loop
 loop-holds c = climbing-start _
 
-mul-loop : tie.Need-mul-loop Inv-loop μ-loop
-mul-loop c = omega (arith, c .before .pre, climbing-low (c .loop .inv))
-
-loop-less : tie.Need-loop-less Inv-loop μ-loop
-loop-less c = omega (arith, power-positive (c .before .loop .inv .power), c .loop-test .taken)
-
 loop-again : tie.Need-loop-again Inv-loop μ-loop
 loop-again c = climbing-step (c .before .loop .inv) (c .loop-test .taken)
 
@@ -30,7 +24,7 @@ returns c = climbing-end (c .before .loop .inv) (omega (arith, c .loop-test .lef
 pub unit-spec : {M : Type 1} → statement M
 unit-spec = tie.close (tie.spec Inv-loop μ-loop
     loop-holds
-    mul-loop (λ c. omega arith)
-    loop-less
+    (λ c. omega (arith, c .before .pre, climbing-low (c .loop .inv))) (λ c. omega arith)
+    (λ c. omega (arith, power-positive (c .before .loop .inv .power), c .loop-test .taken))
     loop-again
     returns)
