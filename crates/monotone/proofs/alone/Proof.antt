@@ -19,7 +19,5 @@ returns-3 c =
     none (zero-bits _ (near .across-near) (c .before .if1 .left), zero-bits _ (near .up-near) (c .if2 .left)) refl
 
 pub alone-spec : {M : Type 1} → statement M
-alone-spec = tie.close (tie.spec (λ c. search needs) (λ c. search needs)
-    returns (λ c. search needs) (λ c. search needs)
-    returns-2
-    returns-3)
+alone-spec = tie.close (tie.spec (λ c. search needs) (λ c. search needs) returns (λ c. search needs)
+    (λ c. search needs) returns-2 returns-3)

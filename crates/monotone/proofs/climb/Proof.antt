@@ -118,11 +118,5 @@ returns c =
     climbing-end (start at .pre .0 .0 .tree) (first-only at) (c .loop-test .left) (at .loop .inv)
 
 pub climb-spec : {M : Type 1} → statement M
-climb-spec = tie.close (tie.spec Inv-loop μ-loop (λ c κs. omega arith)
-    loop-holds (λ c κs. omega arith)
-    turn-edge-requires
-    grow-requires
-    put-requires-2
-    loop-less
-    loop-again (λ c. omega arith)
-    returns)
+climb-spec = tie.close (tie.spec Inv-loop μ-loop (λ c κs. omega arith) loop-holds (λ c κs. omega arith)
+    turn-edge-requires grow-requires put-requires-2 loop-less loop-again (λ c. omega arith) returns)

@@ -33,7 +33,5 @@ returns c =
     )
 
 pub edge-spec : {M : Type 1} → statement M
-edge-spec = tie.close (tie.spec (λ c. search needs)
-    part-requires (λ c. search needs) (λ c. search needs)
-    part-requires-2
-    returns)
+edge-spec = tie.close (tie.spec (λ c. search needs) part-requires (λ c. search needs) (λ c. search needs)
+    part-requires-2 returns)

@@ -43,6 +43,4 @@ returns c =
 
 pub judge-spec : {M : Type 1} → statement M
 judge-spec = tie.close (tie.spec (λ c κs. search needs) (λ c κs. search needs) (λ c. search needs)
-    (λ c κs. search needs)
-    pairs-requires (λ c. search needs)
-    returns)
+    (λ c κs. search needs) pairs-requires (λ c. search needs) returns)

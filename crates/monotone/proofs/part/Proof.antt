@@ -20,6 +20,4 @@ returns c =
     )
 
 pub part-spec : {M : Type 1} → statement M
-part-spec = tie.close (tie.spec (λ c κs. search needs) (λ c. search needs)
-    sub-result
-    returns)
+part-spec = tie.close (tie.spec (λ c κs. search needs) (λ c. search needs) sub-result returns)

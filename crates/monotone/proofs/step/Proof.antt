@@ -116,12 +116,5 @@ returns-8 c =
     }
 
 pub step-spec : {M : Type 1} → statement M
-step-spec = tie.close (tie.spec (λ c κs. search needs) (λ c κs. search needs)
-    returns
-    returns-2
-    returns-3
-    returns-4
-    returns-5
-    returns-6 (λ c κs. search needs)
-    returns-7
-    returns-8)
+step-spec = tie.close (tie.spec (λ c κs. search needs) (λ c κs. search needs) returns returns-2 returns-3 returns-4
+    returns-5 returns-6 (λ c κs. search needs) returns-7 returns-8)

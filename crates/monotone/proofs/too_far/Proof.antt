@@ -42,9 +42,5 @@ returns-3 : tie.Need-returns-3 Inv-loop μ-loop
 returns-3 c = least-is _ _ _ (omega arith) (λ k l. c .before .loop .inv .1 k (omega arith)) (λ l. absurd (omega arith))
 
 pub too-far-spec : {M : Type 1} → statement M
-too-far-spec = tie.close (tie.spec Inv-loop μ-loop
-    loop-holds (λ c κs. omega arith)
-    returns (λ c κs. omega arith)
-    returns-2 (λ c. omega arith) (λ c. omega arith)
-    loop-again
-    returns-3)
+too-far-spec = tie.close (tie.spec Inv-loop μ-loop loop-holds (λ c κs. omega arith) returns (λ c κs. omega arith)
+    returns-2 (λ c. omega arith) (λ c. omega arith) loop-again returns-3)

@@ -63,9 +63,5 @@ returns c =
     record { away = turning-end (given .pre .0 .tree) (c .loop-test .left) (inv .0); only = inv .1 }
 
 pub turn-spec : {M : Type 1} → statement M
-turn-spec = tie.close (tie.spec Inv-loop μ-loop
-    loop-holds
-    turn-edge-requires (λ c κs. omega arith)
-    loop-less
-    loop-again (λ c. c .before .loop .inv .1 .long)
-    returns)
+turn-spec = tie.close (tie.spec Inv-loop μ-loop loop-holds turn-edge-requires (λ c κs. omega arith) loop-less
+    loop-again (λ c. c .before .loop .inv .1 .long) returns)

@@ -30,7 +30,5 @@ returns c =
     (first .flip .ensures) (second .flip2 .ensures)
 
 pub turn-edge-spec : {M : Type 1} → statement M
-turn-edge-spec = tie.close (tie.spec (λ c. search needs)
-    flip-requires (λ c. search needs) (λ c. search needs)
-    flip-requires-2 (λ c. search needs)
-    returns)
+turn-edge-spec = tie.close (tie.spec (λ c. search needs) flip-requires (λ c. search needs) (λ c. search needs)
+    flip-requires-2 (λ c. search needs) returns)

@@ -54,8 +54,5 @@ returns-2 c =
     (stored .put .ensures)
 
 pub visit-spec : {M : Type 1} → statement M
-visit-spec = tie.close (tie.spec (λ c κs. search needs) (λ c. search needs)
-    returns (λ c κs. search needs)
-    get-requires-3
-    grow-requires (λ c κs. search needs) (λ c. search needs)
-    returns-2)
+visit-spec = tie.close (tie.spec (λ c κs. search needs) (λ c. search needs) returns (λ c κs. search needs)
+    get-requires-3 grow-requires (λ c κs. search needs) (λ c. search needs) returns-2)

@@ -10,5 +10,4 @@ returns c = (refl, omega (arith, c .shared-slice-known .given (c .before .args .
 
 pub byte-spec : {M : Type 1} → statement M
 byte-spec = tie.close (tie.spec (λ c. search needs)
-    (λ c. omega (arith, c .shared-slice-known .given (c .before .args .i)))
-    returns)
+    (λ c. omega (arith, c .shared-slice-known .given (c .before .args .i))) returns)

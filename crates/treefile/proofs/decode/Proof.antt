@@ -30,8 +30,6 @@ unfolding words
 returns c = filled-all (c .before .loop .inv) (c .loop-test .left) refl
 
 pub decode-spec : {M : Type 1} → statement M
-decode-spec = tie.close (tie.spec Inv-loop μ-loop
-    loop-holds (λ c. omega arith) (λ c. omega arith) (λ c κs. omega arith) (λ c κs. omega arith) (λ c. omega arith)
-    (λ c. omega arith)
-    loop-again (λ c. omega arith)
+decode-spec = tie.close (tie.spec Inv-loop μ-loop loop-holds (λ c. omega arith) (λ c. omega arith)
+    (λ c κs. omega arith) (λ c κs. omega arith) (λ c. omega arith) (λ c. omega arith) loop-again (λ c. omega arith)
     returns)

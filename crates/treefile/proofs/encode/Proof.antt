@@ -26,8 +26,6 @@ returns : tie.Need-returns Inv-loop μ-loop
 returns c = encoding-end (c .before .loop .inv) (c .loop-test .left)
 
 pub encode-spec : {M : Type 1} → statement M
-encode-spec = tie.close (tie.spec Inv-loop μ-loop
-    loop-holds (λ c κs. omega arith) (λ c. omega arith) (λ c. omega arith) (λ c κs. omega arith) (λ c. omega arith)
-    (λ c. omega arith)
-    loop-again (λ c. omega arith)
+encode-spec = tie.close (tie.spec Inv-loop μ-loop loop-holds (λ c κs. omega arith) (λ c. omega arith)
+    (λ c. omega arith) (λ c κs. omega arith) (λ c. omega arith) (λ c. omega arith) loop-again (λ c. omega arith)
     returns)

@@ -22,6 +22,7 @@ module _ (c : tie.After-validate) where
   abbrev start : tie.Start
   start = parents-saved .before .before .before .before .before .before .before
 
+-- once the table is refused and the parents are put back
 module _ (c : tie.After-restore) where
   abbrev refused : tie.After-k
   refused = c .before .before .before .before

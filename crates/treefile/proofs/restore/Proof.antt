@@ -35,7 +35,5 @@ returns c = (
 )
 
 pub restore-spec : {M : Type 1} → statement M
-restore-spec = tie.close (tie.spec Inv-loop μ-loop
-    loop-holds (λ c. omega arith) (λ c κs. omega arith) (λ c κs. omega arith) (λ c. omega arith) (λ c. omega arith)
-    loop-again (λ c. omega arith)
-    returns)
+restore-spec = tie.close (tie.spec Inv-loop μ-loop loop-holds (λ c. omega arith) (λ c κs. omega arith)
+    (λ c κs. omega arith) (λ c. omega arith) (λ c. omega arith) loop-again (λ c. omega arith) returns)

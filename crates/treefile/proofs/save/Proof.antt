@@ -27,7 +27,5 @@ returns : tie.Need-returns Inv-loop μ-loop
 returns c = (record { same = λ k l. c .before .loop .inv .done k (omega arith) }, c .before .loop .inv .kept)
 
 pub save-spec : {M : Type 1} → statement M
-save-spec = tie.close (tie.spec Inv-loop μ-loop
-    loop-holds (λ c κs. omega arith) (λ c. omega arith) (λ c κs. omega arith) (λ c. omega arith) (λ c. omega arith)
-    loop-again (λ c. omega arith)
-    returns)
+save-spec = tie.close (tie.spec Inv-loop μ-loop loop-holds (λ c κs. omega arith) (λ c. omega arith)
+    (λ c κs. omega arith) (λ c. omega arith) (λ c. omega arith) loop-again (λ c. omega arith) returns)

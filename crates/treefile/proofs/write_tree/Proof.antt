@@ -11,5 +11,4 @@ returns c =
 
 pub write-tree-spec : {M : Type 1} → statement M
 write-tree-spec = tie.close (tie.spec (λ c κs. search needs) (λ c κs. search needs) (λ c. search needs)
-    (λ c. search needs)
-    returns)
+    (λ c. search needs) returns)

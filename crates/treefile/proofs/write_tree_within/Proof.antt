@@ -8,6 +8,7 @@ use Rattle.treefile.proofs.write_tree_within.Tie as tie
 abbrev validated : tie.After-enum-told → tie.After-validate
 validated c = c .before .before .before .before
 
+-- once the parents are written
 module _ (c : tie.After-encode) where
   abbrev counted : tie.After-put-word
   counted = c .before .before .before .before
