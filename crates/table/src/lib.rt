@@ -57,14 +57,15 @@ pub fn checked_limits() -> Limits
     }
 }
 
-// The limits of the program `sheet`.
+// The limits of the program `sheet`: the check's, with no refusal of its own.
 pub fn printed_limits() -> Limits
     ensures { λ r. ⌜ r ≡ printed ⌝ }
 {
+    let limits = checked_limits();
     Limits {
-        nodes: 4096,
-        many: 14,
-        place: FARTHEST,
+        nodes: limits.nodes,
+        many: limits.many,
+        place: limits.place,
         far: 11,
     }
 }

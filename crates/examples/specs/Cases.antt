@@ -2,12 +2,13 @@
 --
 --   Case          == a case, with what document 01 says of it
 --   Holds c       == the definitions say so
+--   line ds       == one-digit numbers, one space between, and the line's end
 --   cases         == the table, in document 01's order
 --   cases-hold    == every case of it holds
 use mathlib.Core.Bool.{true}
-use mathlib.Core.List.{List, [], _∷_}
+use mathlib.Core.List.{List, [], _∷_, _++_}
 use mathlib.Core.Path.{_≡_, refl}
-use Prim.Native.Nat.{ℕ, _*_}
+use Prim.Native.Nat.{ℕ, _+_, _*_}
 use lib.IntN.{ℤ, pos, negℤ}
 use lib.ListN.{length}
 use Rattle.laws.specs.Refusals.{refusal}
@@ -21,8 +22,7 @@ use Rattle.slopes.specs.Examples.{_over_}
 use Rattle.slopes.specs.Slopes.{levels, flat, upright, levelsFor, slopeAt, edge}
 use Rattle.drawing.specs.declared.Framed.{Framed}
 use Rattle.drawing.specs.declared.Framed.the-variants.{Frame, Refused}
-use Rattle.drawing.specs.Drawing.{Drawing, sumUp, pathSum, freshPlaces, fresh, largest, frame, placed}
-use Rattle.drawing.specs.Drawing.{nodeFits}
+use Rattle.drawing.specs.Drawing.{Drawing, sumUp, pathSum, freshPlaces, fresh, largest, frame, placed, nodeFits}
 use Rattle.drawing.specs.Drawing.{drawingFault, layout, lent}
 use Rattle.stretching.specs.Stretching.{moved, stretched, beyond, edgeFault, stretchFault, lengthen, shorten}
 use Rattle.direction.specs.declared.Heading.the-variants.{Along}
@@ -33,6 +33,10 @@ use Rattle.monotone.specs.Decision.{widen, span, upward, downward, pathVectors,
 use Rattle.monotone.specs.Decision.{decide-says}
 use Rattle.monotone.specs.Monotone.{checkFault, Says}
 use Rattle.monotone.specs.Monotone as monotone
+use Rattle.treefile.specs.TreeFile.{wordAt, words, statedNodes, fileParents, fileRanks, openFault}
+use Rattle.treefile.specs.TreeFile.{bytesOf, allBytes, fileOf}
+use Rattle.text.specs.Text.{digits, decimal, field, space, newline, lotLine, lotLines, sheetWord, sheetOf}
+use Rattle.sheetfile.specs.SheetFile.{fileFault, placesOfTable, textOf, sheetText}
 
 ------------------------------------------------------------------------
 -- Cases
@@ -56,6 +60,8 @@ pub data Case : Type 0 where
   Checks : List ℕ → List ℕ → List ℕ → List ℕ → Verdict → Case
   -- a table's refusal
   Refuses : List ℕ → List ℕ → ℕ → ℕ → Case
+  -- what the program `sheet` prints for a table's file
+  Prints : List ℕ → List ℕ → List ℕ → Case
 
 unfoldable pub Holds : Case → Type 0
 Holds (Numbers P R l) = tabulate (length P) (postNumber P R) ≡ l
@@ -64,13 +70,14 @@ Holds (Goes u v d e) = direction large fiveParents fiveRanks Steep 20 u v ≡ Al
 Holds (Levels k l) = levels k flat upright ≡ l
 Holds (Checks P R x y r) = Says checked P R x y (4 * length P) r
 Holds (Refuses P R k v) = tableFault large P R true (4 * length P) ≡ refusal k v
+Holds (Prints P R text) = sheetText (fileOf P R) ≡ text
 
 unfoldable pub AllHold : List Case → Type 0
 AllHold [] = Unit {0}
 AllHold (c ∷ cs) = Holds c × AllHold cs
 
 ------------------------------------------------------------------------
--- Drawings
+-- Drawings and texts
 
 -- whatever the lists hold before
 abbrev anyFive : Drawing
@@ -84,6 +91,16 @@ balanced = lent (1 ∷ 1 ∷ 1 ∷ 1 ∷ 1 ∷ []) (0 ∷ 3 ∷ 1 ∷ 6 ∷ 5 �
 
 abbrev stretchedOne : Drawing
 stretchedOne = lent (1 ∷ 3 ∷ 1 ∷ 1 ∷ 1 ∷ []) (0 ∷ 3 ∷ 1 ∷ 4 ∷ 4 ∷ []) (0 ∷ 9 ∷ 4 ∷ 10 ∷ 11 ∷ [])
+
+abbrev line : List ℕ → List ℕ
+line [] = []
+line (d ∷ []) = (48 + d) ∷ newline ∷ []
+line (d ∷ (e ∷ ds)) = (48 + d) ∷ space ∷ line (e ∷ ds)
+
+abbrev fiveText : List ℕ
+fiveText =
+    (sheetWord ++ line (5 ∷ [])) ++ (line (0 ∷ 0 ∷ 0 ∷ 0 ∷ 0 ∷ []) ++ (line (1 ∷ 1 ∷ 3 ∷ 3 ∷ 2 ∷ [])
+    ++ (line (2 ∷ 1 ∷ 4 ∷ 1 ∷ 1 ∷ []) ++ (line (3 ∷ 2 ∷ 4 ∷ 6 ∷ 3 ∷ []) ++ line (4 ∷ 2 ∷ 5 ∷ 5 ∷ 3 ∷ [])))))
 
 abbrev one : List ℕ
 one = 0 ∷ []
@@ -106,6 +123,7 @@ cases =
     Numbers fiveParents fiveRanks (5 ∷ 3 ∷ 4 ∷ 1 ∷ 2 ∷ [])
     ∷ Calls (layout large fiveParents fiveRanks Steep anyFive 20) (Frame 2 5) steep
     ∷ Calls (layout large fiveParents fiveRanks Balanced anyFive 20) (Frame 6 3) balanced
+    ∷ Prints fiveParents fiveRanks fiveText
     -- steep directions
     ∷ Goes 3 2 (negℤ (pos 7)) (pos 2)
     ∷ Goes 2 3 (pos 7) (negℤ (pos 2))
@@ -145,9 +163,11 @@ unfolding AllHold Holds cases count least tabulate climb leads isChild children 
     postorder place order postNumber strayParent badRank adrift allLong shapeFault treeFault tableFault
     levels levelsFor slopeAt edge sumUp pathSum freshPlaces fresh largest frame placed nodeFits moved stretched beyond
     drawingFault edgeFault stretchFault layout lengthen shorten sideways heading pairFault direction
+    wordAt words statedNodes fileParents fileRanks openFault bytesOf allBytes fileOf digits decimal field lotLine
+    lotLines sheetOf fileFault placesOfTable textOf sheetText
     monotone.beyond checkFault widen span upward downward pathVectors turnsAt secondNode firstNode decide
 cases-hold =
-    refl and refl and refl and refl and refl and refl and refl
+    refl and refl and refl and refl and refl and refl and refl and refl
     and refl and refl and refl and refl and refl and refl and refl
     and says (0 ∷ 0 ∷ 1 ∷ 2 ∷ []) (0 ∷ 0 ∷ 0 ∷ 0 ∷ []) (0 ∷ 1 ∷ 1 ∷ 0 ∷ []) (0 ∷ 0 ∷ 1 ∷ 1 ∷ [])
     and says (0 ∷ 0 ∷ 1 ∷ []) (0 ∷ 0 ∷ 0 ∷ []) (0 ∷ 1 ∷ 2 ∷ []) (0 ∷ 0 ∷ 0 ∷ [])
