@@ -24,7 +24,8 @@ module _ {P R W : List ℕ} (ordered : Ordered P R W) {u v : ℕ} (apart : Apart
     steps = 0;
     at = climb-zero P u;
     below =
-        let some = rise-some (ordered .numbered .tree) u v (apart .pair .first) (apart .pair .second) (apart .not-over) in
+        let some = rise-some (ordered .numbered .tree) u v (apart .pair .first) (apart .pair .second)
+        (apart .not-over) in
         omega arith;
   }
 
@@ -66,6 +67,7 @@ module _ {P R W : List ℕ} (ordered : Ordered P R W) {u v : ℕ} (apart : Apart
 
       pub ascending-end : under P p v ≡ true → z ≡ climb P (rise P u v - 1) u
       ascending-end t =
-          let low = rise-least (ordered .numbered .tree) u v (suc (a .steps)) (subst⁻¹ (λ (w : ℕ). under P w v ≡ true) next t) in
+          let low = rise-least (ordered .numbered .tree) u v (suc (a .steps)) (subst⁻¹ (λ (w : ℕ). under P w v
+          ≡ true) next t) in
           let b = a .below in
           sym (a .at) ∙ ap (λ (k : ℕ). climb P k u) (omega arith)

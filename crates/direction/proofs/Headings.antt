@@ -41,7 +41,8 @@ module _ {P R W : List ℕ} (ordered : Ordered P R W) where
       let way = rise-way (ordered .numbered .tree) u v in (
         subst (λ (z : ℕ). 0 < z) (climb-zero P u) (way 0 (pair .second) (omega arith)),
         subst⁻¹ (λ (z : ℕ). 0 < z) at (way (rise P u v - 1) (pair .second) (omega arith)),
-        subst⁻¹ (λ (z : ℕ). z < length P) at (climb-inside P (ordered .numbered .tree .inside) (rise P u v - 1) u (pair .first)),
+        subst⁻¹ (λ (z : ℕ). z < length P) at (climb-inside P (ordered .numbered .tree .inside) (rise P u v - 1) u
+            (pair .first)),
       )
 
   -- two tests tell whether v is in u's subtree, and u in v's
@@ -58,7 +59,11 @@ module _ {P R W : List ℕ} (ordered : Ordered P R W) where
       pub heading-up : (s : ℕ → Slope) → below ≡ true
           → Along (negsuc 0) (negsuc 0) ≡ heading P R s u v (rise P u v) (rise P v u)
       unfolding heading
-      heading-up s t = rw (up .1, rise-zero (ordered .numbered .tree) v u (pair .second) (pair .first) (sym below-is ∙ t)) refl
+      heading-up s t = rw (
+        up .1,
+        rise-zero (ordered .numbered .tree) v u (pair .second) (pair .first) (sym below-is
+            ∙ t),
+      ) refl
 
       module _ (not-below : below ≡ false) {p q : ℕ}
           (at-p : p ≡ climb P (rise P u v - 1) u) (at-q : q ≡ climb P (rise P v u - 1) v) where
@@ -74,7 +79,8 @@ module _ {P R W : List ℕ} (ordered : Ordered P R W) where
             → r ≡ heading P R s u v (rise P u v) (rise P v u)
         unfolding heading
         heading-side s er =
-            let down = rise-some (ordered .numbered .tree) v u (pair .second) (pair .first) (sym below-is ∙ not-below) in
+            let down = rise-some (ordered .numbered .tree) v u (pair .second) (pair .first) (sym below-is
+            ∙ not-below) in
             let steps-p : rise P u v - 1 ≡ up .0 = omega (arith, up .1) in
             let steps-q : rise P v u - 1 ≡ down .0 = omega arith in
             rw (up .1, down .1) (er ∙ ap₂ (λ (p q : ℕ). sideways R s u v p q)

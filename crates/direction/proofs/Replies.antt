@@ -29,7 +29,10 @@ use Rattle.direction.specs.Ordered.{Answered}
 module _ (P R : List ℕ) (rule : Rule) (u v : ℕ) where
   answer-by : (f : Option Refusal) → pairFault (length P) u v ≡ f
       → {r : Heading} → r ≡ refusedOr Refused f (course P R rule u v) → Answered P R rule u v r
-  answer-by f e q = record { answer = q ∙ ap (λ (f : Option Refusal). refusedOr Refused f (course P R rule u v)) (sym e) }
+  answer-by f e q = record {
+    answer = q ∙ ap (λ (f : Option Refusal). refusedOr Refused f (course P R rule u v))
+        (sym e);
+  }
 
   pub no-first : length P ≤ u → Answered P R rule u v (Refused 9 0)
   unfolding pairFault

@@ -8,12 +8,12 @@ use native.Mathlib.Omega.{arith}
 use lib.ListN.{length}
 use Rattle.laws.specs.Refusals.{some-not-none, orElse-first, settle-none, settle-some}
 use Rattle.laws.specs.Search.{Refusal, Outcome}
-use Rattle.table.specs.Acceptance.{accepting, validity-accepted}
+use Rattle.table.specs.Acceptance.{accepting, validity-accepted, validity}
 use Rattle.table.specs.declared.Limits.{Limits}
 use Rattle.table.specs.declared.Validity.{Validity}
 use Rattle.table.specs.declared.Validity.the-variants.{Accepted, Refused}
 use Rattle.table.specs.Numbering.{Numbered}
-use Rattle.table.specs.Table.{shapeFault, treeFault, tableFault, validity}
+use Rattle.table.specs.Table.{shapeFault, treeFault, tableFault}
 use Rattle.table.specs.Work.{Validated, Ready}
 use Rattle.slopes.specs.declared.Rule.{Rule}
 use Rattle.drawing.specs.declared.Framed.{Framed}

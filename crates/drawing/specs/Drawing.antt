@@ -4,6 +4,7 @@
 -- long), x and y. x and y are one thing twice: a coordinate is a list of places, with the part of a slope that it adds
 -- up.
 --
+--   lent times x y            == the drawing that three lists hold
 --   lengthsFit P s            == the lists of s are as long as P
 --   pathSum P g v             == the sum of g over the path of v: v, its parent, .., a child of the root
 --   fresh P R rule            == the drawing with every times 1
@@ -12,8 +13,8 @@
 --   placed limit .. v         == a coordinate of v is right against its parent's, and within the limit
 --   nodeFits limit .. v       == times and place of v are right against its parent's place, and within the limit
 --   drawingFault L ..         == refusals 1 to 8 at the limits L
+--   redrawn f s t             == the outcome of a call on s with refusal f, or else the drawing t
 --   layout L ..               == the call: what it answers, and the drawing that it leaves
---   lent times x y            == the drawing that three lists hold
 --   OnDrawing L .. o          == the contract of a call on a drawing whose definition is o
 use mathlib.Core.Bool.{Bool, cond, not, _&&_}
 use mathlib.Core.List.{List, [], _∷_}
@@ -39,6 +40,10 @@ pub record Drawing : Type 0 where
   pub x : List ℕ
   pub y : List ℕ
 
+-- the drawing that three lent lists hold
+abbrev pub lent : List ℕ → List ℕ → List ℕ → Drawing
+lent times x y = record { times = times; x = x; y = y }
+
 abbrev pub lengthsFit : List ℕ → Drawing → Bool
 lengthsFit P s = allLong (length P) (s .times ∷ s .x ∷ s .y ∷ [])
 
@@ -54,11 +59,7 @@ unfoldable pub freshPlaces : List ℕ → List ℕ → Rule → (Slope → ℕ) 
 freshPlaces P R rule part = tabulate (length P) (pathSum P (λ v. part (edge P R rule v)))
 
 unfoldable pub fresh : List ℕ → List ℕ → Rule → Drawing
-fresh P R rule = record {
-  times = replicate (length P) 1;
-  x = freshPlaces P R rule acrossOf;
-  y = freshPlaces P R rule upOf;
-}
+fresh P R rule = lent (replicate (length P) 1) (freshPlaces P R rule acrossOf) (freshPlaces P R rule upOf)
 
 unfoldable pub largest : List ℕ → ℕ
 largest [] = 0
@@ -88,17 +89,16 @@ drawingFault L P R rule s work =
 ------------------------------------------------------------------------
 -- The call
 
+-- a refusal leaves the old drawing; otherwise the new one is left, with its frame
+abbrev pub redrawn : Option Refusal → Drawing → Drawing → Outcome Framed Drawing
+redrawn f s t = settle Refused f s (frame t) t
+
 -- work: the length of the work list, whose contents don't matter
 unfoldable pub layout : Limits → List ℕ → List ℕ → Rule → Drawing → ℕ → Outcome Framed Drawing
-layout L P R rule s work =
-    let new = fresh P R rule in settle Refused (tableFault L P R (lengthsFit P s) work) s (frame new) new
+layout L P R rule s work = redrawn (tableFault L P R (lengthsFit P s) work) s (fresh P R rule)
 
 ------------------------------------------------------------------------
 -- The contract: s and W are the drawing and the work list at entry, t and X those at exit
-
--- the drawing that three lent lists hold
-abbrev pub lent : List ℕ → List ℕ → List ℕ → Drawing
-lent times x y = record { times = times; x = x; y = y }
 
 abbrev pub OnDrawing : Limits → List ℕ → List ℕ → Drawing → List ℕ → Drawing → List ℕ → Framed
     → Outcome Framed Drawing → Type 0

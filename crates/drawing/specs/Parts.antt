@@ -12,12 +12,13 @@ use native.Mathlib.Omega.{arith}
 use lib.ListN.{length}
 use Rattle.laws.specs.Refusals.{refusal}
 use Rattle.laws.specs.Search.{Refusal}
-use Rattle.table.specs.Acceptance.{accepting, validity-accepted, validity-refused}
+use Rattle.table.specs.Acceptance.{accepting, validity-accepted, validity-refused, validity}
 use Rattle.table.specs.declared.Limits.{Limits}
 use Rattle.table.specs.declared.Validity.{Validity}
 use Rattle.table.specs.declared.Validity.the-variants.{Accepted, Refused}
 use Rattle.table.specs.Numbering.{NumberedTree}
-use Rattle.table.specs.Table.{shapeFault, tableFault, validity, Spared}
+use Rattle.table.specs.Work.{Spared}
+use Rattle.table.specs.Table.{shapeFault, tableFault}
 use Rattle.slopes.specs.declared.Rule.{Rule}
 use Rattle.slopes.specs.SlopeLaws.{acrossBound, upBound}
 use Rattle.drawing.specs.Drawing.{Drawing, lengthsFit}

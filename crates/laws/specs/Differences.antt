@@ -1,4 +1,5 @@
--- Whole numbers as differences of natural numbers, so that a fact about the former is shown by arithmetic of the latter.
+-- Whole numbers as differences of natural numbers, so that a fact about the former is shown by arithmetic of the
+-- latter.
 --
 --   IsDiff z m n   == z is m - n
 use mathlib.Core.Path.{_≡_, ap}

@@ -23,14 +23,16 @@ module _ (L : Limits) (P R : List ℕ) (rule : Rule) (s : Drawing) (work v c : �
   unfolding make callOf
   made-longer {kind} e h =
       ap (λ (o : Outcome Framed Drawing). o .left) h
-      ∙ sym (ap (λ (b : Bool). make L P R rule s (cond b (Lengthen v c work) (Shorten v c work)) .left) (eq-eqb kind 0 e))
+      ∙ sym (ap (λ (b : Bool). make L P R rule s (cond b (Lengthen v c work) (Shorten v c work)) .left)
+      (eq-eqb kind 0 e))
 
   pub made-shorter : {kind : ℕ} → (kind ≡ 0 → ⊥) → record { answer = r; left = t } ≡ shorten L P R rule s work v c
       → t ≡ make L P R rule s (callOf kind v c work) .left
   unfolding make callOf
   made-shorter {kind} ne h =
       ap (λ (o : Outcome Framed Drawing). o .left) h
-      ∙ sym (ap (λ (b : Bool). make L P R rule s (cond b (Lengthen v c work) (Shorten v c work)) .left) (ne-eqb kind 0 ne))
+      ∙ sym (ap (λ (b : Bool). make L P R rule s (cond b (Lengthen v c work) (Shorten v c work)) .left)
+      (ne-eqb kind 0 ne))
 
 pub record Running (L : Limits) (P R : List ℕ) (rule : Rule) (s : Drawing) (work : ℕ) (K N C : List ℕ)
     (t : Drawing) (i : ℕ) : Type 0 where

@@ -1,6 +1,7 @@
 -- The claim over lists of calls (demand 3; document 01, "Lists of calls"), as one type.
 --
---   Call                    == a lengthen or a shorten: a node, a count and the length of the work list, each of them anything
+--   Call                    == a lengthen or a shorten: a node, a count and the length of the work list, each of them
+--                              anything
 --   make .. s call          == the outcome of the call on the drawing s
 --   run .. s calls          == the drawing after the list, each call made on what the one before left
 --   added, taken .. z       == the sum of the counts of the accepted lengthens, and shortens, of z in the list

@@ -62,7 +62,8 @@ fn make_calls(
     }
 }
 
-// Lays the tree out and makes the calls of three lists of one length; the reply is layout's. Where layout refuses, no call
+// Lays the tree out and makes the calls of three lists of one length; the reply is layout's. Where layout refuses, no
+// call
 // is made.
 pub fn replay(
     rule: Rule,

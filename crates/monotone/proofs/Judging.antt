@@ -113,7 +113,8 @@ module _ (x y : List ℕ) {L : Limits} {P R : List ℕ} {long : Bool} {W X : Lis
       far-is = far ∙ ap (least (beyond (L .place) x y)) x-long
 
       -- refusal 15
-      pub checked-far : {Y : List ℕ} → length Y ≡ length W → v < length P → Checked L P R x y W Y (verdict.Refused (L .far) v)
+      pub checked-far : {Y : List ℕ} → length Y ≡ length W → v < length P → Checked L P R x y W Y (verdict.Refused
+          (L .far) v)
       unfolding Says checkFault
       checked-far same l = record {
         says = orElse-second _ _ accepted ∙ refuseLeast-yes (L .far) (length P) (beyond (L .place) x y) v far-is l;

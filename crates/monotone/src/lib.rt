@@ -36,7 +36,8 @@ pub enum Verdict {
     Refused(u32, u32),
 }
 
-// The cone of a path with no edge, and of one that no half plane holds. Any other is the node of the clockwise side times
+// The cone of a path with no edge, and of one that no half plane holds. Any other is the node of the clockwise side
+// times
 // `SIDE` and the node of the other side; 0 stands for a cone that is not known yet.
 const EMPTY: usize = 1;
 

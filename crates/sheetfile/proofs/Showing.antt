@@ -72,7 +72,8 @@ module _ {B X Y : List ℕ} (t : Taken B X Y) where
   unfolding fresh freshPlaces
   y-long rule = length-tabulate (length X) _ ∙ table-long
 
-  module _ {S T x y u w : List ℕ} (steep : lent S x y ≡ fresh X Y Steep) (balanced : lent T u w ≡ fresh X Y Balanced) where
+  module _ {S T x y u w : List ℕ} (steep : lent S x y ≡ fresh X Y Steep) (balanced : lent T u w
+      ≡ fresh X Y Balanced) where
     steep-long : length x ≡ statedNodes B
     steep-long = ap (λ (d : Drawing). length (d .x)) steep ∙ x-long Steep
 

@@ -1,4 +1,5 @@
--- What is printed for a file, from the reader's answer; and that what is beyond the longest accepted file does not matter.
+-- What is printed for a file, from the reader's answer; and that what is beyond the longest accepted file does not
+-- matter.
 --
 --   Opening B          == what refusals 16, 1, 14 and 17 leave
 --   lent-same          == the refusal is the same with the lists that the program lends

@@ -44,7 +44,8 @@ module _ (limit : ℕ) (P R : List ℕ) (rule : Rule) (s : Drawing) {v t p : ℕ
       (far ∙ ap₂ (λ a b. a * part b) times is)
       ∙ sym (placed-node limit P R rule (s .times) part X v above)
 
-  module _ {r : Bool} {d : ℕ} (some : 1 ≤ t) (across : d ≡ t * slope .across) (e : r ≡ placedFrom limit (s .x) p v d) where
+  module _ {r : Bool} {d : ℕ} (some : 1 ≤ t) (across : d ≡ t * slope .across) (e : r ≡ placedFrom limit
+      (s .x) p v d) where
     pub fits-not-x : r ≡ false → false ≡ nodeFits limit P R rule s v
     fits-not-x fails =
         first-fails _ (sym (placed-is acrossOf (s .x) across e) ∙ fails)

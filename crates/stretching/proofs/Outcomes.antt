@@ -8,7 +8,7 @@ use native.Mathlib.Omega.{arith}
 use lib.ListN.{length, getD, set}
 use borrow.Author.Tests.{le-leb, lt-leb}
 use Rattle.laws.specs.Refusals.{refusal, orElse-first, orElse-second, refuse-yes, refuse-no, settle-none, settle-some}
-use Rattle.laws.specs.Search.{Refusal, _orElse_, settle}
+use Rattle.laws.specs.Search.{Refusal, _orElse_}
 use Rattle.laws.specs.Tests.{by-test, differ}
 use Rattle.table.specs.declared.Limits.{Limits}
 use Rattle.table.specs.declared.Validity.{Validity}
@@ -19,7 +19,7 @@ use Rattle.slopes.specs.declared.Slope.{Slope}
 use Rattle.slopes.specs.Slopes.{acrossOf, upOf, edge}
 use Rattle.drawing.specs.declared.Framed.{Framed}
 use Rattle.drawing.specs.declared.Framed.the-variants as framed
-use Rattle.drawing.specs.Drawing.{Drawing, lent, frame, OnDrawing}
+use Rattle.drawing.specs.Drawing.{Drawing, lent, frame, redrawn, OnDrawing}
 use Rattle.drawing.specs.DrawingLaws.{Coordinate, Drawn, drawn-times, same-drawing}
 use Rattle.drawing.specs.Parts.{fault, no-fault}
 use Rattle.stretching.specs.CallLaws.{Examined, examined, beyond-no, beyond-x, beyond-y, no-beyond}
@@ -121,7 +121,7 @@ module _ {L : Limits} {P R : List ℕ} (rule : Rule) {s : Drawing} {W : List ℕ
   abbrev After : Option Refusal → Drawing → Drawing → Framed → Type 0
   After own new t a =
       OnDrawing L P R s W t X a
-      (settle framed.Refused (stretchFault L P R rule s (length W) v orElse own) s (frame new) new)
+      (redrawn (stretchFault L P R rule s (length W) v orElse own) s new)
 
   refused : {a z : ℕ} (own : Option Refusal) (new : Drawing) → r ≡ Refused a z → After own new s (framed.Refused a z)
   refused own new e = record {

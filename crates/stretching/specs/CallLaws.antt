@@ -19,14 +19,14 @@ use lib.ListN.{length, getD}
 use borrow.Author.Tests.{ltb-false, lt-ltb, le-ltb, lt-leb, leb-false, eqb-false, ne-eqb, not-false}
 use Rattle.laws.specs.Refusals.{orElse-second, orElse-none, refuse-no, refuse-none}
 use Rattle.laws.specs.Refusals.{settle-none}
-use Rattle.laws.specs.Search.{least, Refusal, refuse, _orElse_, Outcome, settle}
+use Rattle.laws.specs.Search.{least, Refusal, refuse, _orElse_, Outcome}
 use Rattle.laws.specs.SearchLaws.{least-found, least-is, least-none}
 use Rattle.laws.specs.Tests.{neither, neither-is, either-first, either-second}
 use Rattle.table.specs.declared.Limits.{Limits}
 use Rattle.slopes.specs.declared.Rule.{Rule}
 use Rattle.drawing.specs.declared.Framed.{Framed}
 use Rattle.drawing.specs.declared.Framed.the-variants.{Frame, Refused}
-use Rattle.drawing.specs.Drawing.{Drawing, lengthsFit, frame, drawingFault}
+use Rattle.drawing.specs.Drawing.{Drawing, frame, drawingFault, redrawn}
 use Rattle.drawing.specs.DrawingLaws.{Drawn}
 use Rattle.drawing.specs.CallLaws.{settled, Inspected, inspected, inspected-again}
 use Rattle.stretching.specs.Stretching.{beyond, edgeFault, stretchFault, lengthen, shorten}
@@ -104,7 +104,8 @@ pub record Untouched (s : Drawing) (o : Outcome Framed Drawing) : Type 0 where
   pub answer : o .answer ≡ Refused number node
   pub left : o .left ≡ s
 
-pub record Stretching (L : Limits) (P R : List ℕ) (rule : Rule) (v c : ℕ) (s t : Drawing) (o : Outcome Framed Drawing) : Type 0 where
+pub record Stretching (L : Limits) (P R : List ℕ) (rule : Rule) (v c : ℕ) (s t : Drawing)
+    (o : Outcome Framed Drawing) : Type 0 where
   pub above : 0 < v
   pub inside : v < length P
   pub answer : o .answer ≡ frame (o .left)
@@ -127,7 +128,7 @@ module _ (L : Limits) (P R : List ℕ) (rule : Rule) (s : Drawing) (work v c : �
       new = longer P R rule s v c
 
       go : (f : Option Refusal) → (stretchFault L P R rule s work v orElse tooFar) ≡ f
-          → Untouched s (settle Refused f s (frame new) new) ⊎ Stretching L P R rule v c s (settle Refused f s (frame new) new .left) (settle Refused f s (frame new) new)
+          → Untouched s (redrawn f s new) ⊎ Stretching L P R rule v c s (redrawn f s new .left) (redrawn f s new)
       go (some r) e = inl (record { number = r .number; node = r .node; answer = refl; left = refl })
       go none e =
           let parts = orElse-none (stretchFault L P R rule s work v) tooFar e in
@@ -151,13 +152,14 @@ module _ (L : Limits) (P R : List ℕ) (rule : Rule) (s : Drawing) (work v c : �
       new = shorter P R rule s v c
 
       go : (f : Option Refusal) → (stretchFault L P R rule s work v orElse tooShort) ≡ f
-          → Untouched s (settle Refused f s (frame new) new) ⊎ Stretching L P R rule v c (settle Refused f s (frame new) new .left) s (settle Refused f s (frame new) new)
+          → Untouched s (redrawn f s new) ⊎ Stretching L P R rule v c (redrawn f s new .left) s (redrawn f s new)
       go (some r) e = inl (record { number = r .number; node = r .node; answer = refl; left = refl })
       go none e =
           let parts = orElse-none (stretchFault L P R rule s work v) tooShort e in
           let x = examined L P R rule s work v (parts .0) in
           let less : c < getD (s .times) v 0 = leb-false (getD (s .times) v 0) c (refuse-none _ 12 v (parts .1)) in
-          let m = shorter-stretch (x .inspected .accepting .tree) {c = c} (x .above) (x .inside) (x .inspected .drawn) (omega arith) in
+          let m = shorter-stretch (x .inspected .accepting .tree) {c = c} (x .above) (x .inside) (x .inspected .drawn)
+          (omega arith) in
           inr (record {
             above = x .above;
             inside = x .inside;
@@ -173,7 +175,8 @@ pub shorten-undoes : (L : Limits) (P R : List ℕ) (rule : Rule) (s : Drawing) (
 unfolding lengthen shorten
 shorten-undoes L P R rule s work v c w h t e =
     let f =
-    settled s (longer P R rule s v c) (frame (longer P R rule s v c)) (stretchFault L P R rule s work v orElse tooFar L P R rule s work v c) e in
+    settled s (longer P R rule s v c) (frame (longer P R rule s v c))
+    (stretchFault L P R rule s work v orElse tooFar L P R rule s work v c) e in
     let parts = orElse-none (stretchFault L P R rule s work v) (tooFar L P R rule s work v c) (f .0) in
     let x = examined L P R rule s work v (parts .0) in
     let on : Stretch P R rule v c s t =
@@ -192,18 +195,16 @@ shorten-undoes L P R rule s work v c w h t e =
 module _ (L : Limits) (P R : List ℕ) (rule : Rule) (s : Drawing) (work v : ℕ) where
   -- by cases on refusals 1 to 10: with a refusal nothing is to be shown
   examine : (tail : Option Refusal) (new : Drawing) → (Examined L P R rule s work v → (tail ≡ none) × (new ≡ s))
-      → settle Refused (stretchFault L P R rule s work v orElse tail) s (frame new) new
-      ≡ settle Refused (stretchFault L P R rule s work v) s (frame s) s
+      → redrawn (stretchFault L P R rule s work v orElse tail) s new ≡ redrawn (stretchFault L P R rule s work v) s s
   examine tail new same = go (stretchFault L P R rule s work v) refl
     where
-      go : (f : Option Refusal) → stretchFault L P R rule s work v ≡ f → settle Refused (f orElse tail) s (frame new) new
-          ≡ settle Refused f s (frame s) s
+      go : (f : Option Refusal) → stretchFault L P R rule s work v ≡ f → redrawn (f orElse tail) s new ≡ redrawn f s s
       go (some r) e = refl
       go none e =
           let both = same (examined L P R rule s work v e) in
-          ap₂ (λ o u. settle Refused o s (frame u) u) (both .0) (both .1)
+          ap₂ (λ o u. redrawn o s u) (both .0) (both .1)
 
-  pub lengthen-0 : lengthen L P R rule s work v 0 ≡ settle Refused (stretchFault L P R rule s work v) s (frame s) s
+  pub lengthen-0 : lengthen L P R rule s work v 0 ≡ redrawn (stretchFault L P R rule s work v) s s
   unfolding lengthen
   lengthen-0 =
       examine (tooFar L P R rule s work v 0) (longer P R rule s v 0)
@@ -215,12 +216,13 @@ module _ (L : Limits) (P R : List ℕ) (rule : Rule) (s : Drawing) (work v : ℕ
         same,
       ))
 
-  pub shorten-0 : shorten L P R rule s work v 0 ≡ settle Refused (stretchFault L P R rule s work v) s (frame s) s
+  pub shorten-0 : shorten L P R rule s work v 0 ≡ redrawn (stretchFault L P R rule s work v) s s
   unfolding shorten
   shorten-0 =
       examine (tooShort L P R rule s work v 0) (shorter P R rule s v 0)
       (λ x. (
         refuse-no _ 12 v (lt-leb (getD (s .times) v 0) 0 (x .inspected .drawn .some v (x .inside))),
-        unstretch-one (x .inside) (shorter-stretch (x .inspected .accepting .tree) (x .above) (x .inside) (x .inspected .drawn)
+        unstretch-one (x .inside) (shorter-stretch (x .inspected .accepting .tree) (x .above) (x .inside)
+            (x .inspected .drawn)
             (omega arith)) (stretch-0 (x .inspected .drawn)),
       ))

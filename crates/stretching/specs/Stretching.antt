@@ -12,14 +12,13 @@ use mathlib.Core.Option.{Option}
 use Prim.Native.Nat.{ℕ, _+_, _-_, _*_}
 use lib.Dec.{ltb, leb, eqb}
 use lib.ListN.{length, getD, set}
-use Rattle.laws.specs.Search.{least, tabulate, Refusal, refuse, _orElse_, Outcome, settle}
+use Rattle.laws.specs.Search.{least, tabulate, Refusal, refuse, _orElse_, Outcome}
 use Rattle.table.specs.declared.Limits.{Limits}
 use Rattle.table.specs.Table.{under}
 use Rattle.slopes.specs.declared.Rule.{Rule}
 use Rattle.slopes.specs.Slopes.{acrossOf, upOf, edge}
 use Rattle.drawing.specs.declared.Framed.{Framed}
-use Rattle.drawing.specs.declared.Framed.the-variants.{Refused}
-use Rattle.drawing.specs.Drawing.{Drawing, frame, drawingFault}
+use Rattle.drawing.specs.Drawing.{Drawing, lent, drawingFault, redrawn}
 
 ------------------------------------------------------------------------
 -- An edge made longer or shorter
@@ -29,11 +28,9 @@ moved P move v places = tabulate (length P) (λ z. cond (under P v z) (move (get
 
 -- `by a d` is what becomes of the number a by d more or less: a + d or a - d
 unfoldable pub stretched : (ℕ → ℕ → ℕ) → List ℕ → List ℕ → Rule → Drawing → ℕ → ℕ → Drawing
-stretched by P R rule s v c = record {
-  times = set (s .times) v (by (getD (s .times) v 0) c);
-  x = moved P (λ a. by a (c * acrossOf (edge P R rule v))) v (s .x);
-  y = moved P (λ a. by a (c * upOf (edge P R rule v))) v (s .y);
-}
+stretched by P R rule s v c =
+    lent (set (s .times) v (by (getD (s .times) v 0) c)) (moved P (λ a. by a (c * acrossOf (edge P R rule v))) v (s .x))
+    (moved P (λ a. by a (c * upOf (edge P R rule v))) v (s .y))
 
 unfoldable pub beyond : ℕ → ℕ → Drawing → Bool
 beyond limit n s = ltb (least (λ z. ltb limit (getD (s .x) z 0) || ltb limit (getD (s .y) z 0)) n) n
@@ -50,13 +47,9 @@ stretchFault L P R rule s work v = drawingFault L P R rule s work orElse edgeFau
 unfoldable pub lengthen : Limits → List ℕ → List ℕ → Rule → Drawing → ℕ → ℕ → ℕ → Outcome Framed Drawing
 lengthen L P R rule s work v c =
     let new = stretched _+_ P R rule s v c in
-    settle Refused
-    (stretchFault L P R rule s work v orElse refuse (beyond (L .place) (length P) new) (L .far) v)
-    s (frame new) new
+    redrawn (stretchFault L P R rule s work v orElse refuse (beyond (L .place) (length P) new) (L .far) v) s new
 
 unfoldable pub shorten : Limits → List ℕ → List ℕ → Rule → Drawing → ℕ → ℕ → ℕ → Outcome Framed Drawing
 shorten L P R rule s work v c =
     let new = stretched _-_ P R rule s v c in
-    settle Refused
-    (stretchFault L P R rule s work v orElse refuse (leb (getD (s .times) v 0) c) 12 v)
-    s (frame new) new
+    redrawn (stretchFault L P R rule s work v orElse refuse (leb (getD (s .times) v 0) c) 12 v) s new

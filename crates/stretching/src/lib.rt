@@ -132,7 +132,8 @@ fn misfit_by_node(
     n
 }
 
-// Whether all nodes fit, where the root does: in reverse post-order, each with a slope that is told by the two after it.
+// Whether all nodes fit, where the root does: in reverse post-order, each with a slope that is told by the two after
+// it.
 fn all_fit(
     limit: usize,
     rule: Rule,
@@ -166,7 +167,8 @@ fn all_fit(
     true
 }
 
-// The smallest node with refusal 8, or n. A steep slope is told by its number alone; balanced ones are quicker in order,
+// The smallest node with refusal 8, or n. A steep slope is told by its number alone; balanced ones are quicker in
+// order,
 // and node by node only where some node doesn't fit.
 fn first_misfit(
     limit: usize,

@@ -14,12 +14,11 @@ use Rattle.laws.specs.Regions.{Only, only-refl, only-trans, only-within}
 use Rattle.laws.specs.Search.{least, Refusal, refuse, refuseLeast}
 use Rattle.laws.specs.SearchLaws.{least-none}
 use Rattle.laws.specs.Tests.{by-lt, differ, false-of, both, both-is}
-use Rattle.table.specs.Acceptance.{shaped, shape-fits, validity-accepted, validity-refused}
+use Rattle.table.specs.Acceptance.{shaped, shape-fits, validity-accepted, validity-refused, validity}
 use Rattle.table.specs.declared.Limits.{Limits}
 use Rattle.table.specs.declared.Validity.{Validity}
 use Rattle.table.specs.declared.Validity.the-variants.{Accepted, Refused}
 use Rattle.table.specs.Table.{parent, rank, strayParent, badRank, adrift, shapeFault, treeFault, tableFault}
-use Rattle.table.specs.Table.{validity}
 use Rattle.table.specs.TableLaws.{stray-yes}
 use Rattle.table.specs.Work.{Scratch, Zeroed, Started, Occupied, Lengths, Rooted, Structured, Validated}
 

@@ -2,6 +2,7 @@
 --
 --   Shape L ..       == what refusals 1 to 3 leave
 --   Accepting L ..   == what refusals 1 to 7 leave
+--   validity f       == whether a table is one: refusal f, or accepted
 --   RanksUsedOnce    == the ranks of a node's children are 0, 1, .., each used by one
 use mathlib.Core.Bool.{Bool, true, false, not}
 use mathlib.Core.List.{List}
@@ -14,16 +15,20 @@ use lib.Dec.{eqb}
 use lib.ListN.{length}
 use borrow.Author.Tests.{eqb-true, eqb-false, ltb-false, not-false, le-ltb, eq-eqb, ne-eqb}
 use Rattle.laws.specs.Refusals.{refusal, orElse-second, orElse-none, refuse-no, refuse-none, refuseLeast-none}
-use Rattle.laws.specs.Search.{Refusal}
+use Rattle.laws.specs.Search.{Refusal, refusedOr}
 use Rattle.laws.specs.SearchLaws.{count-two}
 use Rattle.laws.specs.Tests.{by-eq, by-lt, differ, both, both-is, trichotomy}
 use Rattle.table.specs.Ancestry.{climb-root, leads-in-n, leads-steps}
 use Rattle.table.specs.Children.{Nodes, Child, childAt-test, childAt-is}
 use Rattle.table.specs.declared.Limits.{Limits}
+use Rattle.table.specs.declared.Validity.{Validity}
 use Rattle.table.specs.declared.Validity.the-variants.{Accepted, Refused}
 use Rattle.table.specs.Table.{parent, rank, climb, leads, children, childAt, strayParent, badRank, adrift}
-use Rattle.table.specs.Table.{shapeFault, treeFault, tableFault, validity}
+use Rattle.table.specs.Table.{shapeFault, treeFault, tableFault}
 use Rattle.table.specs.TableLaws.{Tree, tree-ranked, stray-yes, bad-high, bad-shared, adrift-yes}
+
+unfoldable pub validity : Option Refusal → Validity
+validity f = refusedOr Refused f Accepted
 
 ------------------------------------------------------------------------
 -- The shape

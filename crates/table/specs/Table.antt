@@ -19,8 +19,6 @@
 --   shapeFault L ..          == refusals 1 to 3 at the limits L
 --   treeFault P R            == refusals 4 to 7
 --   tableFault L ..          == both, in this order
---   validity f               == whether a table is one: refusal f, or accepted
---   Spared fault W X         == the work list, W at entry and X at exit, is left alone on these refusals
 --   Called fault W X Says    == a call's contract: what it answers and leaves, and what becomes of the work list
 use mathlib.Core.Bool.{Bool, true, cond, not, _&&_, _||_}
 use mathlib.Core.List.{List, [], _∷_, _++_}
@@ -29,10 +27,8 @@ use mathlib.Core.Path.{_≡_}
 use Prim.Native.Nat.{ℕ, zero, suc, _*_}
 use lib.Dec.{ltb, leb, eqb}
 use lib.ListN.{length, getD}
-use Rattle.laws.specs.Search.{count, least, Refusal, refuse, refuseLeast, _orElse_, refusedOr}
+use Rattle.laws.specs.Search.{count, least, Refusal, refuse, refuseLeast, _orElse_}
 use Rattle.table.specs.declared.Limits.{Limits}
-use Rattle.table.specs.declared.Validity.{Validity}
-use Rattle.table.specs.declared.Validity.the-variants.{Accepted, Refused}
 
 ------------------------------------------------------------------------
 -- Parents and children
@@ -150,17 +146,12 @@ treeFault P R =
 unfoldable pub tableFault : Limits → List ℕ → List ℕ → Bool → ℕ → Option Refusal
 tableFault L P R long work = shapeFault L P R long work orElse treeFault P R
 
-unfoldable pub validity : Option Refusal → Validity
-validity f = refusedOr Refused f Accepted
-
 ------------------------------------------------------------------------
 -- What a call's contract says
-
-abbrev pub Spared : Option Refusal → List ℕ → List ℕ → Type 0
-Spared fault W X = (f : Refusal) → fault ≡ some f → X ≡ W
 
 -- Says: the answer and the lists at exit are what the call's definition says
 pub record Called (fault : Option Refusal) (W X : List ℕ) (Says : Type 0) : Type 0 where
   pub says : Says
-  pub spared : Spared fault W X
+  -- on these refusals the work list, W at entry and X at exit, is left alone
+  pub spared : (f : Refusal) → fault ≡ some f → X ≡ W
   pub long : length X ≡ length W

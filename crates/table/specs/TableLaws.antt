@@ -1,6 +1,7 @@
 -- Accepted tables, and the tests of refusals 5, 6 and 7.
 --
---   Tree P R      == what refusals 1 and 3 to 7 leave: the parents lead to node 0, and the ranks of siblings are 0, 1, ..
+--   Tree P R      == what refusals 1 and 3 to 7 leave: the parents lead to node 0, and the ranks of siblings are 0,
+--                    1, ..
 use mathlib.Core.Bool.{true, false, and-false}
 use mathlib.Core.List.{List}
 use mathlib.Core.Path.{_≡_, refl}

@@ -14,22 +14,27 @@
 --   Reaching P W v k   == a climb of k steps from v comes to a marked node, and no shorter one does
 use mathlib.Core.Bool.{Bool, true, false, _&&_}
 use mathlib.Core.List.{List}
-use mathlib.Core.Option.{some}
+use mathlib.Core.Option.{Option, some}
 use mathlib.Core.Path.{_≡_}
 use Prim.Native.Nat.{ℕ, _+_, _*_, _^_, _≤_, _<_}
 use lib.Dec.{ltb, eqb}
 use lib.ListN.{length, getD}
 use Rattle.laws.specs.Regions.{Only}
-use Rattle.laws.specs.Search.{count}
+use Rattle.laws.specs.Search.{count, Refusal}
 use Rattle.laws.specs.Sums.{sum}
 use Rattle.table.specs.Children.{Nodes, slot}
 use Rattle.table.specs.declared.Limits.{Limits}
 use Rattle.table.specs.declared.Validity.{Validity}
 use Rattle.table.specs.declared.Validity.the-variants.{Accepted}
 use Rattle.table.specs.Table.{parent, rank, climb, children, isChildAt, order, postNumber, treeFault}
-use Rattle.table.specs.Table.{shapeFault, tableFault, validity, Spared}
+use Rattle.table.specs.Table.{shapeFault, tableFault}
+use Rattle.table.specs.Acceptance.{validity}
 use Rattle.table.specs.Postorder.{firstNumber}
 use Rattle.table.specs.TableLaws.{Tree}
+
+-- the work list is left alone on these refusals
+abbrev pub Spared : Option Refusal → List ℕ → List ℕ → Type 0
+Spared fault W X = (f : Refusal) → fault ≡ some f → X ≡ W
 
 pub record Scratch (P W : List ℕ) : Type 0 where
   pub nodes : Nodes P

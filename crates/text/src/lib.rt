@@ -126,7 +126,8 @@ fn put_lines(out: &mut [u8], at: usize, x: &[u32], y: &[u32], u: &[u32], w: &[u3
     e
 }
 
-// Puts the text of a sheet at the start and returns its length: x and y are the steep places, u and w the balanced ones.
+// Puts the text of a sheet at the start and returns its length: x and y are the steep places, u and w the balanced
+// ones.
 pub fn put_sheet(out: &mut [u8], x: &[u32], y: &[u32], u: &[u32], w: &[u32]) -> usize
     requires { ⌜ Lines (placesOf (now x) (now y) (now u) (now w)) (length (now x)) (now out) 17 ⌝ }
     ensures { λ r. ⌜ Appended (now (out .entry)) (now (out .exit)) 0 r

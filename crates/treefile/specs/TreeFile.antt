@@ -1,4 +1,5 @@
--- Tree files (document 01, "Tree file and program"; refusals 16 and 17): n, then n parents, then n ranks, each in 4 bytes,
+-- Tree files (document 01, "Tree file and program"; refusals 16 and 17): n, then n parents, then n ranks, each in 4
+-- bytes,
 -- least byte first.
 --
 --   wordAt B i             == the number in the 4 bytes from i on

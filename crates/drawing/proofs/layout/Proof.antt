@@ -15,6 +15,7 @@ returns c =
 
 pub layout-spec : {M : Type 1} → statement M
 layout-spec = tie.close (tie.spec (λ c κs. search needs)
-    (λ c κs. subst (λ (L : Limits). Roomy L) (sym (c .before .before .before .before .large-limits .ensures)) large-roomy)
+    (λ c κs. subst (λ (L : Limits). Roomy L) (sym
+    (c .before .before .before .before .large-limits .ensures)) large-roomy)
     (λ c. search needs) (λ c. search needs) (λ c. search needs) (λ c. search needs)
     returns)

@@ -45,10 +45,12 @@ put-sheet-requires c κs =
     let given = start file .pre in
     let work = file .read-tree-within .ensures .long ∙ given .work in
     let table =
-    taken _ _ _ _ (at-limits _ _ _ _ (limits file .printed-limits .ensures) (file .read-tree-within .ensures)) (given .parent)
+    taken _ _ _ _ (at-limits _ _ _ _ (limits file .printed-limits .ensures) (file .read-tree-within .ensures))
+    (given .parent)
     (given .rank) (given .work) (accepted second .enum-told .given .1) in
     let steep =
-    drawn-fresh table _ _ _ (first second .layout .ensures .says) (given .times) (given .steep-x) (given .steep-y) work in
+    drawn-fresh table _ _ _ (first second .layout .ensures .says) (given .times) (given .steep-x)
+    (given .steep-y) work in
     let balanced =
     drawn-fresh table _ _ _ (second .layout2 .ensures .says) (times-long table _ steep) (given .balanced-x)
     (given .balanced-y) (first second .layout .ensures .long ∙ work) in
@@ -61,7 +63,8 @@ returns c =
     let file = refused .before .before .before .before .before .before .before .before in
     let given = start file .pre in
     appended-is (written .put-refusal .ensures)
-    (sym (refused-text _ _ _ _ (at-limits _ _ _ _ (limits file .printed-limits .ensures) (file .read-tree-within .ensures))
+    (sym (refused-text _ _ _ _ (at-limits _ _ _ _ (limits file .printed-limits .ensures)
+    (file .read-tree-within .ensures))
     (given .parent) (given .rank) (given .work) (refused .number .given .1)))
 
 same-length-5 : tie.Need-same-length-5
@@ -73,7 +76,8 @@ same-length-6 c = reading (laid (c .before .before .before)) .read-tree-within .
 same-length-12 : tie.Need-same-length-12
 same-length-12 c =
     let second = laid (c .before .before .before) in
-    second .layout2 .ensures .long ∙ first second .layout .ensures .long ∙ reading second .read-tree-within .ensures .long
+    second .layout2 .ensures .long ∙ first second .layout .ensures .long
+    ∙ reading second .read-tree-within .ensures .long
 
 returns-2 : tie.Need-returns-2
 returns-2 c =
@@ -83,10 +87,12 @@ returns-2 c =
     let given = start file .pre in
     let work = file .read-tree-within .ensures .long ∙ given .work in
     let table =
-    taken _ _ _ _ (at-limits _ _ _ _ (limits file .printed-limits .ensures) (file .read-tree-within .ensures)) (given .parent)
+    taken _ _ _ _ (at-limits _ _ _ _ (limits file .printed-limits .ensures) (file .read-tree-within .ensures))
+    (given .parent)
     (given .rank) (given .work) (accepted second .enum-told .given .1) in
     let steep =
-    drawn-fresh table _ _ _ (first second .layout .ensures .says) (given .times) (given .steep-x) (given .steep-y) work in
+    drawn-fresh table _ _ _ (first second .layout .ensures .says) (given .times) (given .steep-x)
+    (given .steep-y) work in
     let balanced =
     drawn-fresh table _ _ _ (second .layout2 .ensures .says) (times-long table _ steep) (given .balanced-x)
     (given .balanced-y) (first second .layout .ensures .long ∙ work) in

@@ -31,7 +31,8 @@ returns-6 c =
     let others = c .before in
     let ranks = others .before in
     let few = ranks .before in
-    lengths-right _ _ _ _ _ (past-1 few .if1 .left) (few .if2 .left) (ranks .if3 .left) (not-false _ (others .if4 .left))
+    lengths-right _ _ _ _ _ (past-1 few .if1 .left) (few .if2 .left) (ranks .if3 .left) (not-false _
+    (others .if4 .left))
     (c .if5 .left)
 
 pub test-lengths-spec : {M : Type 1} → statement M
