@@ -1,8 +1,8 @@
 -- Drawings, and the call that lays one out (document 01, "Layout, lengthen, shorten"; refusal 8).
 --
 -- Document 01's sheet is a drawing of a table under a rule: three lists, times (how many times its slope each edge is
--- long), x and y. x and y are one thing twice: a coordinate is a list of places, with the part of a slope that it adds
--- up.
+-- long), x and y. x and y are one thing twice: a coordinate is a list of places, with the part of a slope that it
+-- adds up.
 --
 --   lent times x y            == the drawing that three lists hold
 --   lengthsFit P s            == the lists of s are as long as P

@@ -1,6 +1,5 @@
--- A solver for polynomial identities of whole numbers, by reflection. An expression over numbered variables is
--- brought to a
--- polynomial in Horner's form, and an identity holds where the polynomial of the difference has only zeros:
+-- A solver for polynomial identities of whole numbers, by reflection. An expression over numbered variables is brought
+-- to a polynomial in Horner's form, and an identity holds where the polynomial of the difference has only zeros:
 --     solve (x ∷ y ∷ []) (v 0 ⊗ v 1) (v 1 ⊗ v 0) tt : x *ℤ y ≡ y *ℤ x
 use mathlib.Core.Path.{_≡_, refl, sym, _∙_, ap, ap₂}
 use mathlib.Core.List.{List, [], _∷_}

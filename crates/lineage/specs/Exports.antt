@@ -8,8 +8,7 @@
 --   Short a                  == the number of bytes that the writer answers fits 32 bits
 --   Answered C reply q       == q is the reply of an answer that keeps the contract C
 --   Exported C reply K q s b == b says whether the reply q at entry is three long: then s at exit is the reply of an
---                               answer
---                               that keeps C; otherwise the reply is as it was, and K holds: so is all else
+--                               answer that keeps C; otherwise the reply is as it was, and K holds: so is all else
 use mathlib.Core.Bool.{Bool, true, false}
 use mathlib.Core.List.{List, [], _∷_}
 use mathlib.Core.Path.{_≡_}

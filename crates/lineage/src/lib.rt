@@ -255,8 +255,7 @@ pub extern "C" fn lineage_direction(
 }
 
 // Whether a drawing is monotone: {1, 0, 0}, or {2, u, v} for the first pair that turns, or {0, number, node} where it
-// is
-// refused.
+// is refused.
 #[no_mangle]
 pub extern "C" fn lineage_check(
     parent: &[u32],

@@ -63,8 +63,7 @@ fn make_calls(
 }
 
 // Lays the tree out and makes the calls of three lists of one length; the reply is layout's. Where layout refuses, no
-// call
-// is made.
+// call is made.
 pub fn replay(
     rule: Rule,
     parent: &[u32],

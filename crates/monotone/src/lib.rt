@@ -1,11 +1,11 @@
 // Whether a given drawing of a tree is monotone.
 //
-// A pair of nodes has a direction exactly when the vectors of its tree path lie in an open half plane, and of those the
-// two outermost are all that a longer path asks for: they are the path's cone. For each node u in turn one pass gives
-// every node v the cone of the path from u: up to u's ancestors first, then down from the root, each from its
-// neighbour's. The work list holds, of n numbers each, the cones, the parts across and up of the nodes' edges, and the
-// post-order. While u has its turn, the edges from u to the root are turned round, so that every edge is walked away
-// from u.
+// A pair of nodes has a direction exactly when the vectors of its tree path lie in an open half plane, and of those
+// the two outermost are all that a longer path asks for: they are the path's cone. For each node u in turn one pass
+// gives every node v the cone of the path from u: up to u's ancestors first, then down from the root, each from its
+// neighbour's. The work list holds, of n numbers each, the cones, the parts across and up of the nodes' edges, and
+// the post-order. While u has its turn, the edges from u to the root are turned round, so that every edge is walked
+// away from u.
 ghost use mathlib.Core.List.{List, [], _∷_};
 ghost use mathlib.Core.Path.{_≡_};
 ghost use Prim.Native.Nat.{ℕ, _+_, _-_, _*_, _≤_, _<_};
@@ -37,8 +37,7 @@ pub enum Verdict {
 }
 
 // The cone of a path with no edge, and of one that no half plane holds. Any other is the node of the clockwise side
-// times
-// `SIDE` and the node of the other side; 0 stands for a cone that is not known yet.
+// times `SIDE` and the node of the other side; 0 stands for a cone that is not known yet.
 const EMPTY: usize = 1;
 
 const SHUT: usize = 2;

@@ -10,8 +10,7 @@ use libc::STDOUT_FILENO;
 const MOST: usize = 32773;
 
 // Whether all of the input, or MOST bytes, came with the m bytes that were read. `io::read_full` stops at the end and
-// at
-// a failure alike; at the end alone another read answers 0.
+// at a failure alike; at the end alone another read answers 0.
 fn all_read(m: usize) -> bool {
     if m == MOST {
         return true;

@@ -51,8 +51,7 @@ fn fitted_text(
 }
 
 // Puts the text for the file at the start of `out` and returns its length. The other lists are room to work in; what
-// they
-// hold does not matter.
+// they hold does not matter.
 pub fn sheet_text(
     bytes: &[u8],
     parent: &mut [u32],

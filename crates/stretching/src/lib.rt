@@ -132,8 +132,7 @@ fn misfit_by_node(
     n
 }
 
-// Whether all nodes fit, where the root does: in reverse post-order, each with a slope that is told by the two after
-// it.
+// Whether all nodes fit, where the root does: in reverse post-order, each slope told by the two after it.
 fn all_fit(
     limit: usize,
     rule: Rule,
@@ -168,8 +167,7 @@ fn all_fit(
 }
 
 // The smallest node with refusal 8, or n. A steep slope is told by its number alone; balanced ones are quicker in
-// order,
-// and node by node only where some node doesn't fit.
+// order, and node by node only where some node doesn't fit.
 fn first_misfit(
     limit: usize,
     rule: Rule,

@@ -19,8 +19,7 @@ ghost use Rattle.table.specs.Work.{Visited};
 ghost use Rattle.table.specs.Numbering.{Numbered, NumberedTree, Numbers};
 
 // What a call accepts: the most nodes and the largest place. `many` and `far` are refusal numbers: of more nodes, and
-// of
-// a place beyond.
+// of a place beyond.
 pub struct Limits {
     pub nodes: u32,
     pub many: u32,

@@ -1,6 +1,5 @@
 -- Tree files (document 01, "Tree file and program"; refusals 16 and 17): n, then n parents, then n ranks, each in 4
--- bytes,
--- least byte first.
+-- bytes, least byte first.
 --
 --   wordAt B i             == the number in the 4 bytes from i on
 --   words B i n            == n such numbers, one after the other
@@ -105,8 +104,8 @@ writeTree L P R B work =
     saved (tableFault L P R true work orElse refuse (not (eqb (length B) (4 + 8 * length P))) 17 0) P R B
 
 ------------------------------------------------------------------------
--- The contracts: W and Z are the work list at entry and at exit, the other lists are P, R and B at entry, X, Y and C at
--- exit
+-- The contracts: W and Z are the work list at entry and at exit, the other lists are P, R and B at entry, X, Y and C
+-- at exit
 
 abbrev pub Read : Limits → List ℕ → List ℕ → List ℕ → List ℕ → List ℕ → List ℕ → List ℕ → Loaded → Type 0
 Read L B P R W X Y Z r =

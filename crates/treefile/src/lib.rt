@@ -95,8 +95,7 @@ fn restore(work: &[u32], a: usize, list: &mut [u32])
 }
 
 // Loads the file's table into the two lists, keeping what they held in the work list, and puts that back where the
-// table
-// is refused.
+// table is refused.
 fn load(
     limits: Limits,
     bytes: &[u8],
@@ -187,8 +186,7 @@ fn encode(list: &[u32], bytes: &mut [u8], a: usize)
 }
 
 // Writes the file of an accepted table at the limits: refusals 1 to 7, then 17 where the lent bytes are not 4 + 8n
-// long.
-// Nothing is written on a refusal.
+// long. Nothing is written on a refusal.
 pub fn write_tree_within(
     limits: Limits,
     parent: &[u32],

@@ -1,6 +1,5 @@
 -- `slopes::descend` meets its contract. The loop's invariant is a walk towards the position: the turns that are left
--- are
--- the bits of the position from `bit` down to the one above the lowest 1. The measure is `bit`.
+-- are the bits of the position from `bit` down to the one above the lowest 1. The measure is `bit`.
 use native.Mathlib.Omega.{arith}
 use mathlib.Core.Path.{_∙_}
 use lib.Count.{trailingZeros}
