@@ -68,10 +68,10 @@ pub fn put_decimal(out: &mut [u8], at: usize, n: usize) -> usize
     e
 }
 
-// Puts a number and the byte after it.
+// Puts a number and the byte after it: at most 11 bytes.
 fn put_field(out: &mut [u8], at: usize, n: usize, after: u8) -> usize
     requires { ⌜ (at + 11 ≤ length (now out)) × (n < 10 ^ 10) ⌝ }
-    ensures { λ r. ⌜ Appended (now (out .entry)) (now (out .exit)) at r (field n after) ⌝ }
+    ensures { λ r. ⌜ Appended (now (out .entry)) (now (out .exit)) at r (field n after) × (r ≤ at + 11) ⌝ }
 {
     let e = put_decimal(out, at, n);
     put_byte(out, e, after)

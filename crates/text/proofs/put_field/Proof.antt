@@ -1,7 +1,7 @@
 -- The number, then the byte.
 use native.Mathlib.Omega.{arith}
 use Rattle.text.specs.Text.{field}
-use Rattle.text.specs.TextLaws.{length-decimal, appended-on}
+use Rattle.text.specs.TextLaws.{length-decimal, length-field, appended-on}
 use Rattle.text.proofs.put_field.Statement.{statement}
 use Rattle.text.proofs.put_field.Tie as tie
 
@@ -20,8 +20,11 @@ put-byte-requires c κs =
 returns : tie.Need-returns
 unfolding field
 returns c =
-    let at-put-byte = c .before .before in
-    appended-on (at-put-byte .before .before .before .before .put-decimal .ensures) (at-put-byte .put-byte .ensures)
+    let ended = c .before .before in
+    let decimal = ended .before .before .before .before in
+    let whole = appended-on (decimal .put-decimal .ensures) (ended .put-byte .ensures) in
+    let start = decimal .before .before .before in
+    (whole, omega (arith, whole .ends, length-field (start .args .n) (start .args .after)))
 
 pub put-field-spec : {M : Type 1} → statement M
 put-field-spec = tie.close (tie.spec (λ c κs. omega arith) put-byte-requires (λ c. omega arith) returns)
