@@ -8,23 +8,23 @@ use Prim.Native.Nat.{ℕ, suc, _-_, _<_}
 use native.Mathlib.Omega.{arith}
 use lib.ListN.{length}
 use Rattle.laws.specs.Tests.{by-eq, differ}
-use Rattle.table.specs.Table.{parent, climb, under, rise}
+use Rattle.table.specs.Table.{parent, climb, under, stepsUp}
 use Rattle.table.specs.Ancestry.{climb-zero, climb-inside, depth, depth-parent}
-use Rattle.table.specs.Ancestry.{rise-some, rise-way, rise-common, rise-least}
-use Rattle.direction.specs.Ordered.{Ordered, Pair, Apart}
+use Rattle.table.specs.Ancestry.{stepsUp-some, stepsUp-way, stepsUp-common, stepsUp-least}
+use Rattle.direction.specs.Parts.{LargeTree, TwoNodes, Apart}
 
 pub record Ascending (P : List ℕ) (u v z : ℕ) : Type 0 where
   pub steps : ℕ
   pub at : climb P steps u ≡ z
-  pub below : steps < rise P u v
+  pub below : steps < stepsUp P u v
 
-module _ {P R W : List ℕ} (ordered : Ordered P R W) {u v : ℕ} (apart : Apart P u v) where
+module _ {P R W : List ℕ} (ordered : LargeTree P R W) {u v : ℕ} (apart : Apart P u v) where
   pub ascending-start : Ascending P u v u
   ascending-start = record {
     steps = 0;
     at = climb-zero P u;
     below =
-        let some = rise-some (ordered .numbered .tree) u v (apart .pair .first) (apart .pair .second)
+        let some = stepsUp-some (ordered .numbered .tree) u v (apart .pair .first) (apart .pair .second)
         (apart .not-over) in
         omega arith;
   }
@@ -37,7 +37,7 @@ module _ {P R W : List ℕ} (ordered : Ordered P R W) {u v : ℕ} (apart : Apart
 
     -- p is z's parent
     module _ {p : ℕ} (up : p ≡ parent P z) where
-      pub ascending-pair : Pair P p v
+      pub ascending-pair : TwoNodes P p v
       ascending-pair = record {
         first = subst⁻¹ (λ (w : ℕ). w < length P) up (ordered .numbered .tree .inside z ascending-inside);
         second = apart .pair .second;
@@ -46,7 +46,7 @@ module _ {P R W : List ℕ} (ordered : Ordered P R W) {u v : ℕ} (apart : Apart
       -- each step leads nearer to the root
       pub ascending-less : depth P p < depth P z
       ascending-less =
-          let way = rise-way (ordered .numbered .tree) u v (a .steps) (apart .pair .second) (a .below) in
+          let way = stepsUp-way (ordered .numbered .tree) u v (a .steps) (apart .pair .second) (a .below) in
           let node = subst (λ (w : ℕ). 0 < w) (a .at) way in
           omega (arith, depth-parent (ordered .numbered .tree) z node ascending-inside, ap (depth P) up)
 
@@ -59,15 +59,16 @@ module _ {P R W : List ℕ} (ordered : Ordered P R W) {u v : ℕ} (apart : Apart
       ascending-step f = record {
         steps = suc (a .steps);
         at = next;
-        below = by-eq (suc (a .steps)) (rise P u v)
-            (λ e. absurd (differ (rise-common (ordered .numbered .tree) u v (apart .pair .first) (apart .pair .second))
+        below = by-eq (suc (a .steps)) (stepsUp P u v)
+            (λ e. absurd (differ (stepsUp-common (ordered .numbered .tree) u v (apart .pair .first)
+            (apart .pair .second))
             (subst⁻¹ (λ (w : ℕ). under P w v ≡ false) (ap (λ (k : ℕ). climb P k u) (sym e) ∙ next) f)))
             (λ ne. let b = a .below in omega arith);
       }
 
-      pub ascending-end : under P p v ≡ true → z ≡ climb P (rise P u v - 1) u
+      pub ascending-end : under P p v ≡ true → z ≡ climb P (stepsUp P u v - 1) u
       ascending-end t =
-          let low = rise-least (ordered .numbered .tree) u v (suc (a .steps)) (subst⁻¹ (λ (w : ℕ). under P w v
+          let low = stepsUp-least (ordered .numbered .tree) u v (suc (a .steps)) (subst⁻¹ (λ (w : ℕ). under P w v
           ≡ true) next t) in
           let b = a .below in
           sym (a .at) ∙ ap (λ (k : ℕ). climb P k u) (omega arith)

@@ -8,11 +8,11 @@ use Rattle.slopes.specs.declared.Rule.{Rule}
 use Rattle.slopes.specs.declared.Slope.{Slope}
 use Rattle.slopes.specs.Slopes.{edge}
 use Rattle.slopes.specs.SlopeLaws.{edge-size}
-use Rattle.direction.specs.Ordered.{Ordered, Small}
+use Rattle.direction.specs.Parts.{LargeTree, SmallSlope}
 
-pub small-edge : {P R W : List ℕ} → Ordered P R W → (rule : Rule) {z : ℕ} → 0 < z → z < length P → {s : Slope}
-    → s ≡ edge P R rule z → Small s
+pub small-edge : {P R W : List ℕ} → LargeTree P R W → (rule : Rule) {z : ℕ} → 0 < z → z < length P → {s : Slope}
+    → s ≡ edge P R rule z → SmallSlope s
 small-edge ordered rule {z} above inside e =
     let size = edge-size (ordered .numbered .tree) rule z above inside in
     let few = ordered .few in
-    subst⁻¹ Small e (record { across = omega arith; up = omega arith })
+    subst⁻¹ SmallSlope e (record { across = omega arith; up = omega arith })

@@ -7,16 +7,16 @@ use native.Mathlib.Omega.{arith}
 use lib.IntN.{pos, negsuc}
 use lib.ListN.{length}
 use borrow.Author.Tests.{lt-ltb, le-ltb}
-use Rattle.table.specs.Table.{rank, climb, under, rise}
-use Rattle.table.specs.Ancestry.{climb-zero, climb-inside, rise-zero, rise-some, rise-way}
+use Rattle.table.specs.Table.{rank, climb, under, stepsUp}
+use Rattle.table.specs.Ancestry.{climb-zero, climb-inside, stepsUp-zero, stepsUp-some, stepsUp-way}
 use Rattle.slopes.specs.declared.Slope.{Slope}
 use Rattle.slopes.specs.Slopes.{_⊕_}
 use Rattle.direction.specs.declared.Heading.{Heading}
 use Rattle.direction.specs.declared.Heading.the-variants.{Along}
 use Rattle.direction.specs.Direction.{leftOf, rightOf, sideways, heading}
-use Rattle.direction.specs.Ordered.{Ordered, Pair, Edges}
+use Rattle.direction.specs.Parts.{LargeTree, TwoNodes, TwoEdges}
 
-pub pair-back : {P : List ℕ} {u v : ℕ} → Pair P u v → Pair P v u
+pub pair-back : {P : List ℕ} {u v : ℕ} → TwoNodes P u v → TwoNodes P v u
 pair-back pair = record { first = pair .second; second = pair .first }
 
 -- a and b are the ranks of p and q, m and n two slopes
@@ -32,42 +32,43 @@ module _ (R : List ℕ) (s : ℕ → Slope) (u v p q : ℕ) {a b : ℕ} (at-p : 
   sideways-right l em en er =
       rw (le-ltb (rank R p) (rank R q) (omega arith)) (er ∙ ap₂ (λ (m n : Slope). rightOf (m ⊕ n)) em en)
 
-module _ {P R W : List ℕ} (ordered : Ordered P R W) where
+module _ {P R W : List ℕ} (ordered : LargeTree P R W) where
   -- the child of the lowest common ancestor, and the node itself, are not the root
-  edge-up : {u v p : ℕ} → Pair P u v → under P u v ≡ false → p ≡ climb P (rise P u v - 1) u
+  edge-up : {u v p : ℕ} → TwoNodes P u v → under P u v ≡ false → p ≡ climb P (stepsUp P u v - 1) u
       → (0 < u) × (0 < p) × (p < length P)
   edge-up {u} {v} {p} pair f at =
-      let some = rise-some (ordered .numbered .tree) u v (pair .first) (pair .second) f in
-      let way = rise-way (ordered .numbered .tree) u v in (
+      let some = stepsUp-some (ordered .numbered .tree) u v (pair .first) (pair .second) f in
+      let way = stepsUp-way (ordered .numbered .tree) u v in (
         subst (λ (z : ℕ). 0 < z) (climb-zero P u) (way 0 (pair .second) (omega arith)),
-        subst⁻¹ (λ (z : ℕ). 0 < z) at (way (rise P u v - 1) (pair .second) (omega arith)),
-        subst⁻¹ (λ (z : ℕ). z < length P) at (climb-inside P (ordered .numbered .tree .inside) (rise P u v - 1) u
+        subst⁻¹ (λ (z : ℕ). 0 < z) at (way (stepsUp P u v - 1) (pair .second) (omega arith)),
+        subst⁻¹ (λ (z : ℕ). z < length P) at (climb-inside P (ordered .numbered .tree .inside) (stepsUp P u v - 1) u
             (pair .first)),
       )
 
   -- two tests tell whether v is in u's subtree, and u in v's
-  module _ {u v : ℕ} (pair : Pair P u v) {over : Bool} (over-is : over ≡ under P u v) where
+  module _ {u v : ℕ} (pair : TwoNodes P u v) {over : Bool} (over-is : over ≡ under P u v) where
     pub heading-down : (s : ℕ → Slope) → over ≡ true
-        → Along (pos 1) (pos 1) ≡ heading P R s u v (rise P u v) (rise P v u)
+        → Along (pos 1) (pos 1) ≡ heading P R s u v (stepsUp P u v) (stepsUp P v u)
     unfolding heading
-    heading-down s t = rw (rise-zero (ordered .numbered .tree) u v (pair .first) (pair .second) (sym over-is ∙ t)) refl
+    heading-down s t = rw (stepsUp-zero (ordered .numbered .tree) u v (pair .first) (pair .second) (sym over-is
+        ∙ t)) refl
 
     module _ (not-over : over ≡ false) {below : Bool} (below-is : below ≡ under P v u) where
-      up : (i : ℕ) × (rise P u v ≡ suc i)
-      up = rise-some (ordered .numbered .tree) u v (pair .first) (pair .second) (sym over-is ∙ not-over)
+      up : (i : ℕ) × (stepsUp P u v ≡ suc i)
+      up = stepsUp-some (ordered .numbered .tree) u v (pair .first) (pair .second) (sym over-is ∙ not-over)
 
       pub heading-up : (s : ℕ → Slope) → below ≡ true
-          → Along (negsuc 0) (negsuc 0) ≡ heading P R s u v (rise P u v) (rise P v u)
+          → Along (negsuc 0) (negsuc 0) ≡ heading P R s u v (stepsUp P u v) (stepsUp P v u)
       unfolding heading
       heading-up s t = rw (
         up .1,
-        rise-zero (ordered .numbered .tree) v u (pair .second) (pair .first) (sym below-is
+        stepsUp-zero (ordered .numbered .tree) v u (pair .second) (pair .first) (sym below-is
             ∙ t),
       ) refl
 
       module _ (not-below : below ≡ false) {p q : ℕ}
-          (at-p : p ≡ climb P (rise P u v - 1) u) (at-q : q ≡ climb P (rise P v u - 1) v) where
-        pub side-edges : Edges P u v × Edges P p q
+          (at-p : p ≡ climb P (stepsUp P u v - 1) u) (at-q : q ≡ climb P (stepsUp P v u - 1) v) where
+        pub side-edges : TwoEdges P u v × TwoEdges P p q
         side-edges =
             let first = edge-up pair (sym over-is ∙ not-over) at-p in
             let second = edge-up (pair-back pair) (sym below-is ∙ not-below) at-q in (
@@ -76,12 +77,12 @@ module _ {P R W : List ℕ} (ordered : Ordered P R W) where
             )
 
         pub heading-side : (s : ℕ → Slope) {r : Heading} → r ≡ sideways R s u v p q
-            → r ≡ heading P R s u v (rise P u v) (rise P v u)
+            → r ≡ heading P R s u v (stepsUp P u v) (stepsUp P v u)
         unfolding heading
         heading-side s er =
-            let down = rise-some (ordered .numbered .tree) v u (pair .second) (pair .first) (sym below-is
+            let down = stepsUp-some (ordered .numbered .tree) v u (pair .second) (pair .first) (sym below-is
             ∙ not-below) in
-            let steps-p : rise P u v - 1 ≡ up .0 = omega (arith, up .1) in
-            let steps-q : rise P v u - 1 ≡ down .0 = omega arith in
+            let steps-p : stepsUp P u v - 1 ≡ up .0 = omega (arith, up .1) in
+            let steps-q : stepsUp P v u - 1 ≡ down .0 = omega arith in
             rw (up .1, down .1) (er ∙ ap₂ (λ (p q : ℕ). sideways R s u v p q)
             (at-p ∙ ap (λ (k : ℕ). climb P k u) steps-p) (at-q ∙ ap (λ (k : ℕ). climb P k v) steps-q))

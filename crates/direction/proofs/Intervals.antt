@@ -11,9 +11,9 @@ use Rattle.laws.specs.Tests.{same-test}
 use Rattle.table.specs.Table.{under, postNumber}
 use Rattle.table.specs.Postorder.{firstNumber}
 use Rattle.table.specs.Numbering.{in-subtree}
-use Rattle.direction.specs.Ordered.{Ordered, Pair}
+use Rattle.direction.specs.Parts.{LargeTree, TwoNodes}
 
-module _ {P R W : List ℕ} (ordered : Ordered P R W) {a z : ℕ} (pair : Pair P a z) {k first last : ℕ}
+module _ {P R W : List ℕ} (ordered : LargeTree P R W) {a z : ℕ} (pair : TwoNodes P a z) {k first last : ℕ}
     (at-k : k ≡ getD W z 0) (at-first : first ≡ getD W (2 * length P + a) 0) (at-last : last ≡ getD W a 0) where
   k-is : k ≡ postNumber P R z
   k-is = at-k ∙ ordered .numbered .numbers .last z (pair .second)

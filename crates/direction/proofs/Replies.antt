@@ -16,30 +16,30 @@ use Rattle.table.specs.declared.Validity.{Validity}
 use Rattle.table.specs.declared.Validity.the-variants.{Accepted, Refused as Invalid}
 use Rattle.table.specs.Table.{large, shapeFault, treeFault, tableFault}
 use Rattle.table.specs.Acceptance.{accepting, validity-accepted, validity-refused}
-use Rattle.table.specs.Work.{Validated, Ready}
+use Rattle.table.specs.Parts.{Validated, Ready}
 use Rattle.slopes.specs.declared.Rule.{Rule}
 use Rattle.direction.specs.declared.Heading.{Heading}
 use Rattle.direction.specs.declared.Heading.the-variants.{Refused}
 use Rattle.direction.specs.Direction.{course, pairFault, direction, Directed}
-use Rattle.direction.specs.Ordered.{Answered}
+use Rattle.direction.specs.Parts.{PairAnswered}
 
 ------------------------------------------------------------------------
 -- Refusals 9 and 13, and none
 
 module _ (P R : List ℕ) (rule : Rule) (u v : ℕ) where
   answer-by : (f : Option Refusal) → pairFault (length P) u v ≡ f
-      → {r : Heading} → r ≡ refusedOr Refused f (course P R rule u v) → Answered P R rule u v r
+      → {r : Heading} → r ≡ refusedOr Refused f (course P R rule u v) → PairAnswered P R rule u v r
   answer-by f e q = record {
     answer = q ∙ ap (λ (f : Option Refusal). refusedOr Refused f (course P R rule u v))
         (sym e);
   }
 
-  pub no-first : length P ≤ u → Answered P R rule u v (Refused 9 0)
+  pub no-first : length P ≤ u → PairAnswered P R rule u v (Refused 9 0)
   unfolding pairFault
   no-first h =
       answer-by _ (orElse-first _ _ (refuse-yes _ 9 0 (either-first (leb (length P) u) _ (le-leb _ u h)))) refl
 
-  pub no-second : length P ≤ v → Answered P R rule u v (Refused 9 0)
+  pub no-second : length P ≤ v → PairAnswered P R rule u v (Refused 9 0)
   unfolding pairFault
   no-second h =
       answer-by _ (orElse-first _ _ (refuse-yes _ 9 0 (either-second (leb (length P) u) _ (le-leb _ v h)))) refl
@@ -49,10 +49,10 @@ module _ (P R : List ℕ) (rule : Rule) (u v : ℕ) where
     unfolding pairFault
     both-nodes = orElse-second _ _ (refuse-no _ 9 0 (neither-is (lt-leb (length P) u lu) (lt-leb (length P) v lv)))
 
-    pub one-node : u ≡ v → Answered P R rule u v (Refused 13 0)
+    pub one-node : u ≡ v → PairAnswered P R rule u v (Refused 13 0)
     one-node e = answer-by _ (both-nodes ∙ refuse-yes _ 13 0 (eq-eqb u v e)) refl
 
-    pub two-nodes : (u ≡ v → ⊥) → {r : Heading} → r ≡ course P R rule u v → Answered P R rule u v r
+    pub two-nodes : (u ≡ v → ⊥) → {r : Heading} → r ≡ course P R rule u v → PairAnswered P R rule u v r
     two-nodes ne e = answer-by _ (both-nodes ∙ refuse-no _ 13 0 (ne-eqb u v ne)) e
 
 ------------------------------------------------------------------------
@@ -90,7 +90,7 @@ module _ (P R : List ℕ) (rule : Rule) (u v : ℕ) {L : Limits} (is-large : L �
         )
 
     -- whatever is left in the work list then
-    pub table-accepted : (Y : List ℕ) {a : Heading} → length Y ≡ length W → Answered P R rule u v a
+    pub table-accepted : (Y : List ℕ) {a : Heading} → length Y ≡ length W → PairAnswered P R rule u v a
         → Directed large P R rule W Y u v a
     unfolding direction tableFault
     table-accepted Y {a} same q = record {

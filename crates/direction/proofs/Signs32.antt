@@ -11,7 +11,7 @@ use Rattle.slopes.specs.declared.Slope.{Slope}
 use Rattle.slopes.specs.Slopes.{_⊕_}
 use Rattle.direction.specs.declared.Heading.the-variants.{Along}
 use Rattle.direction.specs.Direction.{leftOf, rightOf}
-use Rattle.direction.specs.Ordered.{Small}
+use Rattle.direction.specs.Parts.{SmallSlope}
 
 pub fits-plus : (n : ℕ) → n < 2 ^ 31 → SFits w32 (pos n)
 fits-plus n l = record { sfits = l }
@@ -34,7 +34,7 @@ pub read-back : {r z : ℤ} → r ≡ z → SFits w32 z → toZ w32 (ofZ w32 r) 
 read-back {r} {z} e f = ap (λ (y : ℤ). toZ w32 (ofZ w32 y)) e ∙ toZ-ofZ w32 z f
 
 -- the sum of two small slopes, turned; d and e are its parts
-module _ {s t : Slope} (ss : Small s) (st : Small t) {left : Bool} {d e : ℤ} where
+module _ {s t : Slope} (ss : SmallSlope s) (st : SmallSlope t) {left : Bool} {d e : ℤ} where
   pub turned-left : left ≡ true → d ≡ negℤ (pos (s .up + t .up)) → e ≡ pos (s .across + t .across)
       → Along (toZ w32 (ofZ w32 d)) (toZ w32 (ofZ w32 e)) ≡ cond left (leftOf (s ⊕ t)) (rightOf (s ⊕ t))
   turned-left is ed ee =

@@ -20,7 +20,7 @@ use lib.IntN.{pos, negℤ}
 use lib.ListN.{length}
 use Rattle.laws.specs.Search.{Refusal, refuse, _orElse_, refusedOr}
 use Rattle.table.specs.declared.Limits.{Limits}
-use Rattle.table.specs.Table.{rank, climb, rise, shapeFault, tableFault, Called}
+use Rattle.table.specs.Table.{rank, climb, stepsUp, shapeFault, tableFault, Called}
 use Rattle.slopes.specs.declared.Rule.{Rule}
 use Rattle.slopes.specs.declared.Slope.{Slope}
 use Rattle.slopes.specs.Slopes.{_⊕_, edge}
@@ -45,7 +45,7 @@ heading P R s u v (suc i) zero = Along (negℤ (pos 1)) (negℤ (pos 1))
 heading P R s u v (suc i) (suc j) = sideways R s u v (climb P i u) (climb P j v)
 
 abbrev pub course : List ℕ → List ℕ → Rule → ℕ → ℕ → Heading
-course P R rule u v = heading P R (edge P R rule) u v (rise P u v) (rise P v u)
+course P R rule u v = heading P R (edge P R rule) u v (stepsUp P u v) (stepsUp P v u)
 
 ------------------------------------------------------------------------
 -- The call

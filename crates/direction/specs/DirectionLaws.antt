@@ -16,9 +16,9 @@ use Rattle.laws.specs.Refusals.{orElse-second, refuse-no}
 use Rattle.laws.specs.Search.{refusedOr}
 use Rattle.laws.specs.Tests.{by-test, neither-is}
 use Rattle.table.specs.declared.Limits.{Limits}
-use Rattle.table.specs.Table.{parent, rank, climb, rise, tableFault}
+use Rattle.table.specs.Table.{parent, rank, climb, stepsUp, tableFault}
 use Rattle.table.specs.TableLaws.{Tree}
-use Rattle.table.specs.Ancestry.{climb-zero, rise-way, rise-siblings}
+use Rattle.table.specs.Ancestry.{climb-zero, stepsUp-way, stepsUp-siblings}
 use Rattle.table.specs.Numbering.{numbering}
 use Rattle.table.specs.Paths.{PathRises, SharePoint, CommonEnd}
 use Rattle.slopes.specs.declared.Rule.{Rule}
@@ -28,7 +28,7 @@ use Rattle.slopes.specs.SlopeLaws.{slope-positive, slope-increasing}
 use Rattle.direction.specs.declared.Heading.{Heading}
 use Rattle.direction.specs.declared.Heading.the-variants.{Along, Refused}
 use Rattle.direction.specs.Direction.{sideways, heading, course, pairFault, direction}
-use Rattle.direction.specs.RisingPaths.{Rising, Drawn, rising-paths}
+use Rattle.direction.specs.RisingPaths.{Rising, DrawnAlong, rising-paths}
 use Rattle.direction.specs.NoCrossing.{no-crossing}
 
 pub rule-rises : (rule : Rule) (n : ℕ) → Rising (slopeAt rule n) n
@@ -50,7 +50,7 @@ direction-given L P R rule work u v fine lu lv ne =
     ∙ refuse-no _ 13 0 (ne-eqb u v ne))
 
 module _ {P R : List ℕ} (tree : Tree P R) (rule : Rule) {t : ℕ → ℕ} {x y : List ℕ}
-    (drawn : Drawn P (edge P R rule) t x y) where
+    (drawn : DrawnAlong P (edge P R rule) t x y) where
   -- along the direction that the call gives every edge of the path rises
   pub direction-rises : (L : Limits) (work u v : ℕ) → tableFault L P R true work ≡ none
       → u < length P → v < length P → u ≢ v
@@ -80,17 +80,17 @@ abs-minus (suc n) = refl
 -- no part is more than twice the largest part of a slope
 pub heading-size : {P R : List ℕ} → Tree P R → (s : ℕ → Slope) (b : ℕ) → 1 ≤ b
     → ((z : ℕ) → 0 < z → z < length P → (s z .across ≤ b) × (s z .up ≤ b))
-    → (u v : ℕ) → u < length P → v < length P → Within (2 * b) (heading P R s u v (rise P u v) (rise P v u))
+    → (u v : ℕ) → u < length P → v < length P → Within (2 * b) (heading P R s u v (stepsUp P u v) (stepsUp P v u))
 unfolding heading sideways
-heading-size {P} {R} tree s b one part u v lu lv = go (rise P u v) (rise P v u) refl refl
+heading-size {P} {R} tree s b one part u v lu lv = go (stepsUp P u v) (stepsUp P v u) refl refl
   where
-    go : (i j : ℕ) → rise P u v ≡ i → rise P v u ≡ j → Within (2 * b) (heading P R s u v i j)
+    go : (i j : ℕ) → stepsUp P u v ≡ i → stepsUp P v u ≡ j → Within (2 * b) (heading P R s u v i j)
     go zero j ei ej = (omega arith, omega arith)
     go (suc i) zero ei ej = (omega arith, omega arith)
     go (suc i) (suc j) ei ej =
-        let siblings = rise-siblings tree u v i j lu lv ei ej in
-        let at-u = part u (subst (λ (z : ℕ). 0 < z) (climb-zero P u) (rise-way tree u v 0 lv (omega arith))) lu in
-        let at-v = part v (subst (λ (z : ℕ). 0 < z) (climb-zero P v) (rise-way tree v u 0 lu (omega arith))) lv in
+        let siblings = stepsUp-siblings tree u v i j lu lv ei ej in
+        let at-u = part u (subst (λ (z : ℕ). 0 < z) (climb-zero P u) (stepsUp-way tree u v 0 lv (omega arith))) lu in
+        let at-v = part v (subst (λ (z : ℕ). 0 < z) (climb-zero P v) (stepsUp-way tree v u 0 lu (omega arith))) lv in
         let at-p = part (climb P i u) (siblings .p-node) (siblings .p-inside) in
         let at-q = part (climb P j v) (siblings .q-node) (siblings .q-inside) in
         by-test (ltb (rank R (climb P i u)) (rank R (climb P j v)))

@@ -4,7 +4,7 @@ use mathlib.Core.Path.{_≡_, refl}
 use Prim.Native.Nat.{ℕ}
 use lib.IntN.{pos, negℤ}
 use Rattle.laws.specs.Search.{count, least}
-use Rattle.table.specs.Table.{climb, leads, isChild, children, isChildAt, childAt, under, rise}
+use Rattle.table.specs.Table.{climb, leads, isChild, children, isChildAt, childAt, under, stepsUp}
 use Rattle.table.specs.Table.{forest, postorder, place, order, postNumber}
 use Rattle.table.specs.Table.{strayParent, badRank, adrift, large, shapeFault, treeFault, tableFault}
 use Rattle.slopes.specs.declared.Rule.the-variants.{Steep}
@@ -30,7 +30,7 @@ cases =
     ∷ []
 
 unfoldable pub five : ℕ → ℕ → Heading
-unfolding count least climb leads isChild children isChildAt childAt under rise forest postorder place order
+unfolding count least climb leads isChild children isChildAt childAt under stepsUp forest postorder place order
     postNumber strayParent badRank adrift shapeFault treeFault tableFault slopeAt edge sideways heading pairFault
     direction
 five u v = direction large (0 ∷ 0 ∷ 0 ∷ 1 ∷ 1 ∷ []) (0 ∷ 0 ∷ 1 ∷ 0 ∷ 1 ∷ []) Steep 20 u v

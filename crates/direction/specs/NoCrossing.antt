@@ -17,15 +17,15 @@ use lib.Signed.{_<ℤ_, _≤ℤ_, <ℤ-irrefl}
 use Rattle.laws.specs.Signs.{at-least, above, <-to, ≤-to, <→≤, ≤+<, <+≤, ≤+≤, <*<, ≤*≤}
 use Rattle.laws.specs.Solver.{v, _⊕_, _⊖_, _⊗_, solve}
 use Rattle.laws.specs.Tests.{by-test, by-lt, differ, false-of}
-use Rattle.table.specs.Table.{parent, climb, under, rise}
+use Rattle.table.specs.Table.{parent, climb, under, stepsUp}
 use Rattle.table.specs.TableLaws.{Tree}
 use Rattle.table.specs.Numbering.{Numbering}
 use Rattle.table.specs.Ancestry.{climb-onward, climb-inside, under-steps, steps-under, under-trans, not-under-child}
-use Rattle.table.specs.Ancestry.{rise-is, rise-some, rise-siblings}
+use Rattle.table.specs.Ancestry.{stepsUp-is, stepsUp-some, stepsUp-siblings}
 use Rattle.table.specs.Paths.{PathRises, SharePoint, CommonEnd}
 use Rattle.table.specs.PathLaws.{path-back, height, rises-height, along-height, along-start, share-back, end-back}
 use Rattle.slopes.specs.declared.Slope.{Slope}
-use Rattle.direction.specs.RisingPaths.{Rising, Drawn, rising-paths}
+use Rattle.direction.specs.RisingPaths.{Rising, DrawnAlong, rising-paths}
 
 ------------------------------------------------------------------------
 -- Heights
@@ -122,7 +122,7 @@ shared-start h a b f c d m i j m1 im af bf fc cd e = (meet fc, none j refl)
         (<*< (pos j) (h d -ℤ h c) (above (omega arith)) cd))))
 
 ------------------------------------------------------------------------
--- Edges of a path
+-- TwoEdges of a path
 
 module _ (x y : List ℕ) (d e : ℤ) where
   abbrev h : ℕ → ℤ
@@ -161,9 +161,9 @@ module _ {P R : List ℕ} (tree : Tree P R) (x y : List ℕ)
       way : (k : ℕ) × (k ≤ length P) × (climb P k w ≡ u)
       way = under-steps P u w t
 
-      long : (k : ℕ) → climb P (suc k) w ≡ u → rise P w (parent P u) ≡ suc (suc k)
+      long : (k : ℕ) → climb P (suc k) w ≡ u → stepsUp P w (parent P u) ≡ suc (suc k)
       long k q =
-          rise-is tree w (parent P u) (suc (suc k)) lw (tree .inside u lu)
+          stepsUp-is tree w (parent P u) (suc (suc k)) lw (tree .inside u lu)
           (steps-under P (tree .inside) (climb P (suc (suc k)) w) (parent P u) 0 (tree .inside u lu)
           (ap (parent P) (sym q)))
           (λ i l. false-of (λ above-u. differ
@@ -196,8 +196,8 @@ module _ {P R : List ℕ} (tree : Tree P R) (x y : List ℕ)
       → SharePoint x y (parent P u) u (parent P w) w m i j → CommonEnd x y (parent P u) u (parent P w) w m i
   unfolding climb
   beside u w m i j lu lw ne f g s =
-      let a : (k : ℕ) × (rise P u w ≡ suc k) = rise-some tree u w lu lw f in
-      let b : (k : ℕ) × (rise P w u ≡ suc k) = rise-some tree w u lw lu g in
+      let a : (k : ℕ) × (stepsUp P u w ≡ suc k) = stepsUp-some tree u w lu lw f in
+      let b : (k : ℕ) × (stepsUp P w u ≡ suc k) = stepsUp-some tree w u lw lu g in
       let r : (d e : ℤ) × PathRises P x y d e u w = in-either-order u w lu lw ne in
       let high = height x y (r .0) (r .1) in
       let up : (k : ℕ) → k < suc (a .0) → Higher high (climb P k u) (climb P (suc k) u) =
@@ -205,7 +205,7 @@ module _ {P R : List ℕ} (tree : Tree P R) (x y : List ℕ)
       let down : (k : ℕ) → k < suc (b .0) → Higher high (climb P (suc k) w) (climb P k w) =
       λ k l. rises-height x y (r .0) (r .1) (climb P (suc k) w) (climb P k w) (r .2 .going-down k (omega arith)) in
       let top : climb P (suc (a .0)) u ≡ climb P (suc (b .0)) w =
-      rise-siblings tree u w (a .0) (b .0) lu lw (a .1) (b .1) .one-parent in
+      stepsUp-siblings tree u w (a .0) (b .0) lu lw (a .1) (b .1) .one-parent in
       path-ends x y (r .0) (r .1) (parent P u) u (parent P u) (parent P w) w m i j (inl refl) (inl refl)
       (inr (up 0 (omega arith)))
       (up-to-trans high (parent P u) (climb P (suc (a .0)) u) (parent P w)
@@ -227,7 +227,7 @@ module _ {P R : List ℕ} (tree : Tree P R) (x y : List ℕ)
 -- A drawing whose slopes rise with the numbers
 
 module _ {P R : List ℕ} (tree : Tree P R) {number : ℕ → ℕ} (numbering : Numbering P R number) {s : ℕ → Slope}
-    (rising : Rising s (length P)) {t : ℕ → ℕ} {x y : List ℕ} (drawn : Drawn P (λ z. s (number z)) t x y) where
+    (rising : Rising s (length P)) {t : ℕ → ℕ} {x y : List ℕ} (drawn : DrawnAlong P (λ z. s (number z)) t x y) where
   pub no-crossing : (u w m i j : ℕ) → 0 < u → u < length P → 0 < w → w < length P → u ≢ w
       → SharePoint x y (parent P u) u (parent P w) w m i j → CommonEnd x y (parent P u) u (parent P w) w m i
   no-crossing =

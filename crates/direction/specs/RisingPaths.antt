@@ -7,7 +7,8 @@
 --
 --   Rising s n         == the slopes s 1, .., s (n - 1) have parts of at least 1, and each is steeper than those before
 --   Stands P t part c  == in the coordinate c, each node but the root lies t times its part beyond its parent
---   Drawn P s t x y    == x and y place each node but the root t times, and at least once, its slope from its parent
+--   DrawnAlong P s t x y    == x and y place each node but the root t times, and at least once, its slope from its
+--                              parent
 use mathlib.Core.List.{List}
 use mathlib.Core.Path.{_≡_, refl, ap, subst, _∙_}
 use Prim.Native.Nat.{ℕ, zero, suc, _+_, _-_, _*_, _≤_, _<_}
@@ -19,11 +20,11 @@ use lib.ListN.{length, getD}
 use borrow.Author.Tests.{ltb-true, ltb-false}
 use Rattle.laws.specs.Differences.{diff-pos, diff-neg}
 use Rattle.laws.specs.Tests.{by-test, by-eq}
-use Rattle.table.specs.Table.{parent, rank, climb, rise}
+use Rattle.table.specs.Table.{parent, rank, climb, stepsUp}
 use Rattle.table.specs.TableLaws.{Tree}
 use Rattle.table.specs.Numbering.{Numbering}
-use Rattle.table.specs.Ancestry.{climb-zero, climb-inside, climb-onward, rise-way}
-use Rattle.table.specs.Ancestry.{Siblings, rise-siblings, siblings-ranks}
+use Rattle.table.specs.Ancestry.{climb-zero, climb-inside, climb-onward, stepsUp-way}
+use Rattle.table.specs.Ancestry.{Siblings, stepsUp-siblings, siblings-ranks}
 use Rattle.table.specs.Paths.{Rises, PathRises}
 use Rattle.table.specs.PathLaws.{rises-by, path-back}
 use Rattle.slopes.specs.declared.Slope.{Slope}
@@ -40,7 +41,7 @@ pub record Rising (s : ℕ → Slope) (n : ℕ) : Type 0 where
 abbrev pub Stands : List ℕ → (ℕ → ℕ) → (ℕ → ℕ) → List ℕ → Type 0
 Stands P t part c = (v : ℕ) → 0 < v → v < length P → getD c v 0 ≡ getD c (parent P v) 0 + t v * part v
 
-pub record Drawn (P : List ℕ) (s : ℕ → Slope) (t : ℕ → ℕ) (x y : List ℕ) : Type 0 where
+pub record DrawnAlong (P : List ℕ) (s : ℕ → Slope) (t : ℕ → ℕ) (x y : List ℕ) : Type 0 where
   pub times-from-1 : (v : ℕ) → 0 < v → v < length P → 1 ≤ t v
   pub at-x : Stands P t (λ v. s v .across) x
   pub at-y : Stands P t (λ v. s v .up) y
@@ -48,7 +49,7 @@ pub record Drawn (P : List ℕ) (s : ℕ → Slope) (t : ℕ → ℕ) (x y : Lis
 ------------------------------------------------------------------------
 -- One edge
 
-module _ {P : List ℕ} {s : ℕ → Slope} {t : ℕ → ℕ} {x y : List ℕ} (drawn : Drawn P s t x y) (z : ℕ) (node : 0 < z)
+module _ {P : List ℕ} {s : ℕ → Slope} {t : ℕ → ℕ} {x y : List ℕ} (drawn : DrawnAlong P s t x y) (z : ℕ) (node : 0 < z)
     (inside : z < length P) where
   -- walked up, an edge flatter than m rises along m turned left
   flatter-rises : (m : Slope) → Below (s z) m → Rises x y (negℤ (pos (m .up))) (pos (m .across)) z (parent P z)
@@ -115,14 +116,14 @@ module _ {P R : List ℕ} (tree : Tree P R) {number : ℕ → ℕ} (numbering : 
     --------------------------------------------------------------------
     -- Paths
 
-    module _ {t : ℕ → ℕ} {x y : List ℕ} (drawn : Drawn P (λ z. s (number z)) t x y) where
+    module _ {t : ℕ → ℕ} {x y : List ℕ} (drawn : DrawnAlong P (λ z. s (number z)) t x y) where
       -- from an ancestor down
-      path-down : (u v : ℕ) → u < length P → v < length P → rise P u v ≡ 0 → PathRises P x y (pos 1) (pos 1) u v
+      path-down : (u v : ℕ) → u < length P → v < length P → stepsUp P u v ≡ 0 → PathRises P x y (pos 1) (pos 1) u v
       unfolding climb
       path-down u v lu lv e = record {
         going-up = λ i l. absurd (omega arith);
         going-down = λ j l.
-            let node = rise-way tree v u j lu l in
+            let node = stepsUp-way tree v u j lu l in
             let inside = climb-inside P (tree .inside) j v lv in
             let low = numbering .from-1 (climb P j v) inside in
             let high = number-below-n (climb P j v) node inside in
@@ -132,11 +133,11 @@ module _ {P R : List ℕ} (tree : Tree P R) {number : ℕ → ℕ} (numbering : 
 
       -- from the side of lower rank to the other
       module _ (u v i j p q : ℕ) (lu : u < length P) (lv : v < length P)
-          (ei : rise P u v ≡ suc i) (ej : rise P v u ≡ suc j) (to-p : climb P i u ≡ p) (to-q : climb P j v ≡ q)
+          (ei : stepsUp P u v ≡ suc i) (ej : stepsUp P v u ≡ suc j) (to-p : climb P i u ≡ p) (to-q : climb P j v ≡ q)
           (siblings : Siblings P p q) (less : rank R p < rank R q) where
         v-node : 0 < v
         unfolding climb
-        v-node = rise-way tree v u 0 lu (omega arith)
+        v-node = stepsUp-way tree v u 0 lu (omega arith)
 
         abbrev between : Slope
         between = s (number p) ⊕ s (number v)
@@ -161,7 +162,7 @@ module _ {P R : List ℕ} (tree : Tree P R) {number : ℕ → ℕ} (numbering : 
 
         v-side : (k : ℕ) → k ≤ j → Below between (s (number (climb P k v)))
         v-side k l =
-            let node = rise-way tree v u k lu (omega arith) in
+            let node = stepsUp-way tree v u k lu (omega arith) in
             let inside = climb-inside P (tree .inside) k v lv in
             let on : climb P (j - k) (climb P k v) ≡ q = climb-onward P j k v l ∙ to-q in
             omega (
@@ -174,20 +175,20 @@ module _ {P R : List ℕ} (tree : Tree P R) {number : ℕ → ℕ} (numbering : 
         path-left : PathRises P x y (negℤ (pos (between .up))) (pos (between .across)) u v
         unfolding climb
         path-left = record {
-          going-up = λ k l. flatter-rises drawn (climb P k u) (rise-way tree u v k lv l)
+          going-up = λ k l. flatter-rises drawn (climb P k u) (stepsUp-way tree u v k lv l)
               (climb-inside P (tree .inside) k u lu) between (u-side k (omega arith));
-          going-down = λ k l. steeper-rises drawn (climb P k v) (rise-way tree v u k lu l)
+          going-down = λ k l. steeper-rises drawn (climb P k v) (stepsUp-way tree v u k lu l)
               (climb-inside P (tree .inside) k v lv) between (v-side k (omega arith));
         }
 
       -- the direction that is given, for any two nodes
       pub rising-paths : (u v : ℕ) → u < length P → v < length P
-          → (d e : ℤ) × (heading P R (λ z. s (number z)) u v (rise P u v) (rise P v u) ≡ Along d e)
+          → (d e : ℤ) × (heading P R (λ z. s (number z)) u v (stepsUp P u v) (stepsUp P v u) ≡ Along d e)
           × PathRises P x y d e u v
       unfolding heading sideways
-      rising-paths u v lu lv = go (rise P u v) (rise P v u) refl refl
+      rising-paths u v lu lv = go (stepsUp P u v) (stepsUp P v u) refl refl
         where
-          go : (i j : ℕ) → rise P u v ≡ i → rise P v u ≡ j
+          go : (i j : ℕ) → stepsUp P u v ≡ i → stepsUp P v u ≡ j
               → (d e : ℤ) × (heading P R (λ z. s (number z)) u v i j ≡ Along d e) × PathRises P x y d e u v
           go zero j ei ej = (pos 1, pos 1, refl, path-down u v lu lv ei)
           go (suc i) zero ei ej =
@@ -197,7 +198,7 @@ module _ {P R : List ℕ} (tree : Tree P R) {number : ℕ → ℕ} (numbering : 
               let q = climb P j v in
               let m = s (number (climb P i u)) ⊕ s (number v) in
               let w = s (number (climb P j v)) ⊕ s (number u) in
-              let siblings = rise-siblings tree u v i j lu lv ei ej in
+              let siblings = stepsUp-siblings tree u v i j lu lv ei ej in
               by-test (ltb (rank R (climb P i u)) (rank R (climb P j v)))
               (λ t. (
                 negℤ (pos (m .up)),
@@ -213,6 +214,6 @@ module _ {P R : List ℕ} (tree : Tree P R) {number : ℕ → ℕ} (numbering : 
                 rw t refl,
                 subst (λ (d : ℤ). PathRises P x y d (negℤ (pos (w .across))) u v) (negℤ-negℤ (pos (w .up)))
                     (path-back P x y (negℤ (pos (w .up))) (pos (w .across)) v u
-                    (path-left v u j i q p lv lu ej ei refl refl (rise-siblings tree v u j i lv lu ej ei)
+                    (path-left v u j i q p lv lu ej ei refl refl (stepsUp-siblings tree v u j i lv lu ej ei)
                     (omega arith))),
               ))

@@ -14,7 +14,7 @@ use Rattle.table.specs.declared.Validity.{Validity}
 use Rattle.table.specs.declared.Validity.the-variants.{Accepted, Refused}
 use Rattle.table.specs.Numbering.{Numbered}
 use Rattle.table.specs.Table.{shapeFault, treeFault, tableFault}
-use Rattle.table.specs.Work.{Validated, Ready}
+use Rattle.table.specs.Parts.{Validated, Ready}
 use Rattle.slopes.specs.declared.Rule.{Rule}
 use Rattle.drawing.specs.declared.Framed.{Framed}
 use Rattle.drawing.specs.declared.Framed.the-variants as framed

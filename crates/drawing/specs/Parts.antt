@@ -17,7 +17,7 @@ use Rattle.table.specs.declared.Limits.{Limits}
 use Rattle.table.specs.declared.Validity.{Validity}
 use Rattle.table.specs.declared.Validity.the-variants.{Accepted, Refused}
 use Rattle.table.specs.Numbering.{NumberedTree}
-use Rattle.table.specs.Work.{Spared}
+use Rattle.table.specs.Parts.{Spared}
 use Rattle.table.specs.Table.{shapeFault, tableFault}
 use Rattle.slopes.specs.declared.Rule.{Rule}
 use Rattle.slopes.specs.SlopeLaws.{acrossBound, upBound}

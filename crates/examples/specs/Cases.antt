@@ -13,7 +13,7 @@ use lib.IntN.{ℤ, pos, negℤ}
 use lib.ListN.{length}
 use Rattle.laws.specs.Refusals.{refusal}
 use Rattle.laws.specs.Search.{count, least, tabulate, Outcome}
-use Rattle.table.specs.Table.{climb, leads, isChild, children, isChildAt, childAt, under, rise, forest, postorder}
+use Rattle.table.specs.Table.{climb, leads, isChild, children, isChildAt, childAt, under, stepsUp, forest, postorder}
 use Rattle.table.specs.Table.{place, order, postNumber, large, checked, strayParent, badRank, adrift, allLong}
 use Rattle.table.specs.Table.{shapeFault, treeFault, tableFault}
 use Rattle.slopes.specs.declared.Rule.the-variants.{Steep, Balanced}
@@ -159,13 +159,13 @@ abbrev _and_ : {A B : Type 0} → A → B → A × B
 a and b = (a, b)
 
 pub cases-hold : AllHold cases
-unfolding AllHold Holds cases count least tabulate climb leads isChild children isChildAt childAt under rise forest
+unfolding AllHold Holds cases count least tabulate climb leads isChild children isChildAt childAt under stepsUp forest
     postorder place order postNumber strayParent badRank adrift allLong shapeFault treeFault tableFault
     levels levelsFor slopeAt edge sumUp pathSum freshPlaces fresh largest frame placed nodeFits moved stretched beyond
     drawingFault edgeFault stretchFault layout lengthen shorten sideways heading pairFault direction
     wordAt words statedNodes fileParents fileRanks openFault bytesOf allBytes fileOf digits decimal field lotLine
     lotLines sheetOf fileFault placesOfTable textOf sheetText
-    monotone.beyond checkFault widen span upward downward pathVectors turnsAt secondNode firstNode decide
+    monotone.placeBeyond checkFault widen span upward downward pathVectors turnsAt secondNode firstNode decide
 cases-hold =
     refl and refl and refl and refl and refl and refl and refl and refl
     and refl and refl and refl and refl and refl and refl and refl

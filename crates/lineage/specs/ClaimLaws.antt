@@ -1,7 +1,7 @@
 -- Demand 3, proved: any list of calls leaves a drawing whose times are 1 + added - taken, and of a drawing all the rest
 -- follows.
 --
---   Fitting L   == fresh drawings fit the limits L, which are within those of direction and of the check
+--   LimitsFit L   == fresh drawings fit the limits L, which are within those of direction and of the check
 --   demand-3    == the claim at the large limits
 use mathlib.Core.Bool.{Bool, true, false, cond}
 use mathlib.Core.List.{List, [], _∷_}
@@ -39,12 +39,12 @@ use Rattle.direction.specs.Direction.{direction}
 use Rattle.direction.specs.DirectionLaws.{direction-rises, edges-apart}
 use Rattle.monotone.specs.declared.Verdict.{Verdict}
 use Rattle.monotone.specs.declared.Verdict.the-variants.{Monotone}
-use Rattle.monotone.specs.Monotone.{HasDirection, beyond, checkFault, Says}
+use Rattle.monotone.specs.Monotone.{HasDirection, placeBeyond, checkFault, Says}
 use Rattle.monotone.specs.MonotoneLaws.{says-one}
 use Rattle.lineage.specs.Claim.{Call, Lengthen, Shorten, accepted, adds, takes, make, run, total, added, taken}
 use Rattle.lineage.specs.Claim.{lengthOf, Assured, Claim}
 
-pub record Fitting (L : Limits) : Type 0 where
+pub record LimitsFit (L : Limits) : Type 0 where
   pub roomy : Roomy L
   pub few : L .nodes ≤ large .nodes
   pub near : L .place ≤ checked .place
@@ -172,7 +172,7 @@ accepted-within L M P R long more work e few lists =
     }))
     ∙ both .1
 
-module _ (L : Limits) (fit : Fitting L) (P R : List ℕ) (rule : Rule) (long : Bool) (work : ℕ)
+module _ (L : Limits) (fit : LimitsFit L) (P R : List ℕ) (rule : Rule) (long : Bool) (work : ℕ)
     (fine : tableFault L P R long work ≡ none) (tree : Tree P R) (s : Drawing) (calls : List Call)
     (r : Ran L P R rule s calls)
     (once : (v : ℕ) → v < length P → getD (s .times) v 0 ≡ 1) where
@@ -199,7 +199,7 @@ module _ (L : Limits) (fit : Fitting L) (P R : List ℕ) (rule : Rule) (long : B
       ∙ path-cong tree (stepOf P R rule part (t .times)) (λ z. part (edge P R rule z) * lengthOf L P R rule s calls z)
       (λ z a m. ap (λ (k : ℕ). k * part (edge P R rule z)) (long-as z m) ∙ mul-comm _ _) v l
 
-  stands : Rattle.direction.specs.RisingPaths.Drawn P (edge P R rule) (λ v. getD (t .times) v 0) (t .x) (t .y)
+  stands : Rattle.direction.specs.RisingPaths.DrawnAlong P (edge P R rule) (λ v. getD (t .times) v 0) (t .x) (t .y)
   unfolding t edge
   stands = record {
     times-from-1 = λ v a l. r .drawn .some v l;
@@ -215,18 +215,18 @@ module _ (L : Limits) (fit : Fitting L) (P R : List ℕ) (rule : Rule) (long : B
 
   -- the check refuses nothing here
   unrefused : length P ≤ checked .nodes → checkFault checked P R (t .x) (t .y) (4 * length P) ≡ none
-  unfolding checkFault beyond allLong t
+  unfolding checkFault placeBeyond allLong t
   unrefused h =
       orElse-second _ _ (accepted-within L checked P R long _ work fine h lists)
-      ∙ refuseLeast-no (checked .far) (length P) (beyond (checked .place) (t .x) (t .y)) (length P)
-      (least-is (beyond (checked .place) (t .x) (t .y)) (length P) (length P) (omega arith) near
+      ∙ refuseLeast-no (checked .far) (length P) (placeBeyond (checked .place) (t .x) (t .y)) (length P)
+      (least-is (placeBeyond (checked .place) (t .x) (t .y)) (length P) (length P) (omega arith) near
       (λ l. absurd (omega arith)))
       (omega arith)
     where
       lists : allLong (length P) (t .x ∷ t .y ∷ []) ≡ true
       lists = rw (eq-eqb _ _ (r .drawn .x .long), eq-eqb _ _ (r .drawn .y .long)) refl
 
-      near : (v : ℕ) → v < length P → beyond (checked .place) (t .x) (t .y) v ≡ false
+      near : (v : ℕ) → v < length P → placeBeyond (checked .place) (t .x) (t .y) v ≡ false
       near v l =
           neither-is
           (le-ltb (checked .place) (getD (t .x) v 0) (omega (arith, r .drawn .x .within v l, fit .near)))
@@ -267,7 +267,7 @@ unfolding layout
 layout-fine L P R rule old work w h s e =
     settled old (fresh P R rule) (frame (fresh P R rule)) (tableFault L P R (lengthsFit P old) work) e .0
 
-pub claim : (L : Limits) → Fitting L → Claim L
+pub claim : (L : Limits) → LimitsFit L → Claim L
 unfolding Claim
 claim L fit P R rule old work w h s e calls =
     let l = layout-drawn L (fit .roomy) P R rule old work w h s e in
@@ -276,7 +276,7 @@ claim L fit P R rule old work w h s e calls =
     (ran L P R rule s calls (l .1))
     (λ v b. ap (λ (d : Drawing). getD (d .times) v 0) (sym (l .2)) ∙ fresh-once (l .0) rule v b)
 
-pub large-fits : Fitting large
+pub large-fits : LimitsFit large
 large-fits = record { roomy = large-roomy; few = omega arith; near = omega arith }
 
 pub demand-3 : Claim large

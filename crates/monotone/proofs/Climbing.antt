@@ -13,11 +13,11 @@ use Rattle.laws.specs.Tests.{by-eq, differ, false-of, both, both-is}
 use Rattle.table.specs.Ancestry.{under-refl, under-parent, under-trans, under-on}
 use Rattle.table.specs.Table.{parent, under}
 use Rattle.table.specs.TableLaws.{Tree}
-use Rattle.table.specs.Work.{Zeroed}
+use Rattle.table.specs.Parts.{Zeroed}
 use Rattle.monotone.specs.Plane.{Vec}
-use Rattle.monotone.specs.Cones.{Part, Edges, partAt, edgeAt, Holds, empty, Formed, Grown}
+use Rattle.monotone.specs.Cones.{Part, SmallEdges, partAt, edgeAt, Holds, empty, Formed, Grown}
 use Rattle.monotone.specs.PathEdges.{OnPath, child-below, path-none, path-up}
-use Rattle.monotone.specs.Rows.{EdgeTurned, TurnedPart, Away, Said, Told, Climbed}
+use Rattle.monotone.specs.Parts.{EdgeTurned, TurnedPart, Away, Said, Told, Climbed}
 use Rattle.monotone.proofs.Growth.{holds-some, formed-one, holds-as}
 use Rattle.monotone.proofs.Stores.{store-here, store-else}
 use Rattle.monotone.proofs.Turning.{TurningPart, Turning, root-below, turning-start, turning-step}
@@ -26,7 +26,7 @@ use Rattle.monotone.proofs.Turning.{turning-kept, turning-end, edge-onl
 ------------------------------------------------------------------------
 -- Stores in the first region leave the edges
 
-pub edges-kept : {n : ℕ} {W X : List ℕ} → Only 0 n W X → Edges n W → Edges n X
+pub edges-kept : {n : ℕ} {W X : List ℕ} → Only 0 n W X → SmallEdges n W → SmallEdges n X
 edges-kept o e = record {
   few = e .few;
   long = o .long ∙ e .long;

@@ -21,10 +21,10 @@ use Rattle.monotone.specs.MonotoneLaws.{Before}
 use Rattle.monotone.specs.Plane.{HasHalfPlane, cone-open}
 use Rattle.monotone.specs.Cones.{partAt, edgeAt, Holds, any, empty, shut, wide}
 use Rattle.monotone.specs.PathEdges.{away, has-direction, has-half-plane}
-use Rattle.monotone.specs.Rows.{TurnedPart, Away, Said, Coned, DrawnPart, Drawn}
+use Rattle.monotone.specs.Parts.{TurnedPart, Away, Said, Coned, DrawnPart, DrawnEdges}
 
 ------------------------------------------------------------------------
--- Edges of a drawing
+-- SmallEdges of a drawing
 
 sub-is : (a b : ℕ) → IsDiff (pos a -ℤ pos b) a b
 sub-is a b =
@@ -46,7 +46,7 @@ module _ {P c : List ℕ} {u at : ℕ} {W X : List ℕ} (drawn : DrawnPart P c a
       sub-same (getD X (at + z) 0) 2147483648 (getD c z 0) (getD c (parent P z) 0)
       (omega (arith, drawn .drawn z l, turned .same z l (λ _. a)))
 
-edge-away : {P x y : List ℕ} {u : ℕ} {W X : List ℕ} → Drawn P x y W → Away P u W X
+edge-away : {P x y : List ℕ} {u : ℕ} {W X : List ℕ} → DrawnEdges P x y W → Away P u W X
     → (z : ℕ) → 0 < z → z < length P → edgeAt (length P) X z ≡ away P x y u z
 unfolding away
 edge-away {P} {u = u} d t z s l = by-test (under P z u)
@@ -59,7 +59,7 @@ edge-away {P} {u = u} d t z s l = by-test (under P z u)
       up = part-down (d .up) (t .up) z s l a i;
     }))
 
-pub drawn-kept : {P x y W X : List ℕ} → Only 0 (length P) W X → Drawn P x y W → Drawn P x y X
+pub drawn-kept : {P x y W X : List ℕ} → Only 0 (length P) W X → DrawnEdges P x y W → DrawnEdges P x y X
 drawn-kept {P} {x} {y} {W} {X} o d = record {
   across = record { drawn = λ z l. omega (arith, o .above (length P + z) (omega arith), d .across .drawn z l) };
   up = record { drawn = λ z l. omega (arith, o .above (2 * length P + z) (omega arith), d .up .drawn z l) };
@@ -69,7 +69,7 @@ drawn-kept {P} {x} {y} {W} {X} o d = record {
 -- A cone decides its pair
 
 module _ {P R : List ℕ} (T : Tree P R) {x y : List ℕ} {u : ℕ} (l : u < length P) {W X : List ℕ} (c : Coned P u W X)
-    (d : Drawn P x y W) (v : ℕ) (m : v < length P) where
+    (d : DrawnEdges P x y W) (v : ℕ) (m : v < length P) where
   edges : (z : ℕ) → 0 < z → z < length P → edgeAt (length P) (c .turned) z ≡ away P x y u z
   edges = edge-away d (c .away)
 
@@ -103,7 +103,8 @@ module _ {P R : List ℕ} (T : Tree P R) {x y : List ℕ} {u : ℕ} (l : u < len
 
 -- every pair before (u, v) has a direction, in any drawing that the edges of W are of
 pub record Passed (P W : List ℕ) (u v : ℕ) : Type 0 where
-  pub all : (x y : List ℕ) → Drawn P x y W → (a b : ℕ) → a < b → b < length P → Before a b u v → HasDirection P x y a b
+  pub all : (x y : List ℕ) → DrawnEdges P x y W → (a b : ℕ) → a < b → b < length P → Before a b u v
+      → HasDirection P x y a b
 
 pub passed-none : {P W : List ℕ} → Passed P W 0 0
 passed-none = record { all = λ x y d a b h k. ⊎-elim (λ l. absurd (omega arith)) (λ l. absurd (omega arith)) }
@@ -121,7 +122,8 @@ clear-more {X} {u} {v} c ne = record {
 module _ {P R : List ℕ} (T : Tree P R) {u v : ℕ} (l : u < length P) {W X Y : List ℕ} (only : Only 0 (length P) W X)
     (c : Coned P u X Y) (passed : Passed P W u 0) (clear : Clear Y u v) where
   -- those before (u, v)
-  before : (x y : List ℕ) → Drawn P x y W → (a b : ℕ) → a < b → b < length P → Before a b u v → HasDirection P x y a b
+  before : (x y : List ℕ) → DrawnEdges P x y W → (a b : ℕ) → a < b → b < length P → Before a b u v
+      → HasDirection P x y a b
   before x y d a b h k = ⊎-elim (λ i. passed .all x y d a b h k (inl i))
       (λ i. subst⁻¹ (λ (e : ℕ). HasDirection P x y e b) (i .0)
       (directed T l c (drawn-kept only d) b k (clear .none b (let j : u < b = omega arith in j) (i .1))))
@@ -134,7 +136,7 @@ module _ {P R : List ℕ} (T : Tree P R) {u v : ℕ} (l : u < length P) {W X Y :
         (λ i. absurd (omega arith));
   }
 
-  pub first-turn : u < v → v < length P → getD Y v 0 ≡ 2 → (x y : List ℕ) → Drawn P x y W → FirstTurn P x y u v
+  pub first-turn : u < v → v < length P → getD Y v 0 ≡ 2 → (x y : List ℕ) → DrawnEdges P x y W → FirstTurn P x y u v
   first-turn h k two x y d = record {
     ordered = h;
     inside = k;
@@ -143,7 +145,7 @@ module _ {P R : List ℕ} (T : Tree P R) {u v : ℕ} (l : u < length P) {W X Y :
   }
 
 pub all-passed : {P W : List ℕ} {u : ℕ} → length P ≤ u → Passed P W u 0
-    → (x y : List ℕ) → Drawn P x y W → AllDirected P x y
+    → (x y : List ℕ) → DrawnEdges P x y W → AllDirected P x y
 all-passed end p x y d = record { directed = λ a b h k. p .all x y d a b h k (inl (omega arith)) }
 
 ------------------------------------------------------------------------

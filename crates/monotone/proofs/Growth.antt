@@ -7,7 +7,7 @@ use native.Mathlib.Omega.{arith}
 use Rattle.monotone.specs.declared.Move.{Move}
 use Rattle.monotone.specs.declared.Move.the-variants.{Keep, High, Low, Never}
 use Rattle.monotone.specs.Plane.{Vec, Cone, cone-first, zero-none, none-more}
-use Rattle.monotone.specs.Cones.{edgeAt, Moved, Pair, Holds, empty, shut, wide, Formed, Alone, none, one}
+use Rattle.monotone.specs.Cones.{edgeAt, RightMove, ConePair, Holds, empty, shut, wide, Formed, Alone, none, one}
 use Rattle.monotone.specs.Cones.{Growing, Grown}
 
 ------------------------------------------------------------------------
@@ -19,19 +19,19 @@ high-half a b h = omega arith
 low-half : (a b : ℕ) → b < 65536 → (a * 65536 + b) % 65536 ≡ b
 low-half a b h = omega arith
 
-pub pair-fits : {n k : ℕ} → n ≤ 65536 → Pair n k → k < 4294967296
+pub pair-fits : {n k : ℕ} → n ≤ 65536 → ConePair n k → k < 4294967296
 pair-fits few p = omega arith
 
-pub pair-of : {n : ℕ} (a b : ℕ) → n ≤ 65536 → 0 < a → a < n → 0 < b → b < n → Pair n (a * 65536 + b)
+pub pair-of : {n : ℕ} (a b : ℕ) → n ≤ 65536 → 0 < a → a < n → 0 < b → b < n → ConePair n (a * 65536 + b)
 pair-of a b few p q r s = record { low = omega arith; low-in = omega arith; high = omega arith; high-in = omega arith }
 
 ------------------------------------------------------------------------
 -- What a cone tells of its code
 
-not-one : {n k : ℕ} → Pair n k → k ≡ 1 → ⊥
+not-one : {n k : ℕ} → ConePair n k → k ≡ 1 → ⊥
 not-one p e = omega arith
 
-not-two : {n k : ℕ} → Pair n k → k ≡ 2 → ⊥
+not-two : {n k : ℕ} → ConePair n k → k ≡ 2 → ⊥
 not-two p e = omega arith
 
 module _ {n k : ℕ} where
@@ -41,7 +41,7 @@ module _ {n k : ℕ} where
   formed-two : k ≡ 2 → Formed n k
   formed-two e = record { some = λ z. omega arith; pair = λ f g. absurd (g e) }
 
-  formed-pair : Pair n k → Formed n k
+  formed-pair : ConePair n k → Formed n k
   formed-pair p = record { some = λ z. omega arith; pair = λ f g. p }
 
 module _ {n : ℕ} {side : ℕ → Bool} {edge : ℕ → Vec} {k : ℕ} {us : List Vec} where
@@ -126,7 +126,7 @@ module _ {n : ℕ} {W : List ℕ} {k z : ℕ} (g : Growing n W k z) where
       more side t (one h q) us (shut f _) = absurd (omega arith)
       more side t (one h q) us (wide p _ _ _) = absurd (not-one p e)
 
-  module _ (m : Move) (moved : Moved (edge (k / 65536)) (edge (k % 65536)) (edge z) m) (pair : Pair n k) where
+  module _ (m : Move) (moved : RightMove (edge (k / 65536)) (edge (k % 65536)) (edge z) m) (pair : ConePair n k) where
     -- only a pair has a move
     by-pair : {r : ℕ} → ((side : ℕ → Bool) → side z ≡ true → side (k / 65536) ≡ true → side (k % 65536) ≡ true
         → (us : List Vec) → Cone (edge (k / 65536)) (edge (k % 65536)) us → Holds n side edge r (edge z ∷ us))
@@ -136,8 +136,8 @@ module _ {n : ℕ} {W : List ℕ} {k z : ℕ} (g : Growing n W k z) where
     by-pair f side t us (shut e _) = absurd (not-two pair e)
     by-pair f side t us (wide p a b c) = f side t a b us c
 
-    move : (i : Move) → m ≡ i → Moved (edge (k / 65536)) (edge (k % 65536)) (edge z) i
-    move i e = subst (Moved (edge (k / 65536)) (edge (k % 65536)) (edge z)) e moved
+    move : (i : Move) → m ≡ i → RightMove (edge (k / 65536)) (edge (k % 65536)) (edge z) i
+    move i e = subst (RightMove (edge (k / 65536)) (edge (k % 65536)) (edge z)) e moved
 
     pub grow-keep : m ≡ Keep → Grown n edge k z k
     grow-keep e = record {
@@ -171,5 +171,5 @@ module _ {n : ℕ} {W : List ℕ} {k z : ℕ} (g : Growing n W k z) where
     }
 
 -- the vectors of the move, as the code has them
-pub moved-to : {a a′ b b′ c c′ : Vec} {m : Move} → a ≡ a′ → b ≡ b′ → c ≡ c′ → Moved a b c m → Moved a′ b′ c′ m
-moved-to {m = m} p q r f = subst₃ (λ (x y z : Vec). Moved x y z m) p q r f
+pub moved-to : {a a′ b b′ c c′ : Vec} {m : Move} → a ≡ a′ → b ≡ b′ → c ≡ c′ → RightMove a b c m → RightMove a′ b′ c′ m
+moved-to {m = m} p q r f = subst₃ (λ (x y z : Vec). RightMove x y z m) p q r f

@@ -19,11 +19,11 @@ use Rattle.table.specs.declared.Limits.{Limits}
 use Rattle.table.specs.declared.Validity.the-variants.{Accepted, Refused}
 use Rattle.table.specs.Numbering.{Numbering, Numbered, numbering, number-at}
 use Rattle.table.specs.Table.{order, postNumber, allLong, shapeFault, tableFault, large, farthest}
-use Rattle.table.specs.Work.{Validated}
+use Rattle.table.specs.Parts.{Validated}
 use Rattle.monotone.specs.declared.Verdict.{Verdict}
 use Rattle.monotone.specs.declared.Verdict.the-variants as verdict
-use Rattle.monotone.specs.Monotone.{beyond, checkFault, Says, Checked}
-use Rattle.monotone.specs.Rows.{WithEdges, Ordered, DrawnPart, Drawn, Found, Judged}
+use Rattle.monotone.specs.Monotone.{placeBeyond, checkFault, Says, Checked}
+use Rattle.monotone.specs.Parts.{WithEdges, ChildrenFirst, DrawnPart, DrawnEdges, Found, Judged}
 use Rattle.monotone.proofs.Places.{both-within, drawn-small}
 
 ------------------------------------------------------------------------
@@ -33,7 +33,7 @@ use Rattle.monotone.proofs.Places.{both-within, drawn-small}
 module _ {P R x y W A B C : List ℕ} (j : Judged P R x y W) (numbered : Numbered P R A)
     (x-drawn : DrawnPart P x (length P) B) (x-only : Only (length P) (length P + length P) A B)
     (y-drawn : DrawnPart P y (2 * length P) C) (y-only : Only (2 * length P) (2 * length P + length P) B C) where
-  pub drawn : Drawn P x y C
+  pub drawn : DrawnEdges P x y C
   drawn = record {
     across = record { drawn = λ z l. omega (arith, y-only .below (length P + z) (omega arith), x-drawn .drawn z l) };
     up = y-drawn;
@@ -56,7 +56,7 @@ module _ {P R x y W A B C : List ℕ} (j : Judged P R x y W) (numbered : Numbere
       y-only .above (3 * length P + i) (omega arith) ∙ x-only .above (3 * length P + i) (omega arith)
       ∙ numbered .node i l
 
-  pub ordered : Ordered P C
+  pub ordered : ChildrenFirst P C
   ordered =
       let laws : Numbering P R (postNumber P R) = numbering (j .ready .tree) in
       record {
@@ -108,16 +108,16 @@ module _ (x y : List ℕ) {L : Limits} {P R : List ℕ} {long : Bool} {W X : Lis
     pub few-nodes : L .nodes ≤ large .nodes → length P ≤ large .nodes
     few-nodes nodes = omega (arith, known .shape .few)
 
-    module _ {v : ℕ} (far : v ≡ least (beyond (L .place) x y) (length x)) where
-      far-is : v ≡ least (beyond (L .place) x y) (length P)
-      far-is = far ∙ ap (least (beyond (L .place) x y)) x-long
+    module _ {v : ℕ} (far : v ≡ least (placeBeyond (L .place) x y) (length x)) where
+      far-is : v ≡ least (placeBeyond (L .place) x y) (length P)
+      far-is = far ∙ ap (least (placeBeyond (L .place) x y)) x-long
 
       -- refusal 15
       pub checked-far : {Y : List ℕ} → length Y ≡ length W → v < length P → Checked L P R x y W Y (verdict.Refused
           (L .far) v)
       unfolding Says checkFault
       checked-far same l = record {
-        says = orElse-second _ _ accepted ∙ refuseLeast-yes (L .far) (length P) (beyond (L .place) x y) v far-is l;
+        says = orElse-second _ _ accepted ∙ refuseLeast-yes (L .far) (length P) (placeBeyond (L .place) x y) v far-is l;
         spared = passed;
         long = same;
       }
@@ -127,7 +127,7 @@ module _ (x y : List ℕ) {L : Limits} {P R : List ℕ} {long : Bool} {W X : Lis
         unfolding checkFault
         no-fault =
             orElse-second _ _ accepted
-            ∙ refuseLeast-no (L .far) (length P) (beyond (L .place) x y) v far-is near
+            ∙ refuseLeast-no (L .far) (length P) (placeBeyond (L .place) x y) v far-is near
 
         -- no refusal
         pub checked-found : {Y : List ℕ} → length Y ≡ length W → (r : Verdict) → Found P x y r → Checked L P R x y W Y r
@@ -141,7 +141,8 @@ module _ (x y : List ℕ) {L : Limits} {P R : List ℕ} {long : Bool} {W X : Lis
 
         within : (w : ℕ) → w < length P → (getD x w 0 ≤ L .place) × (getD y w 0 ≤ L .place)
         within w l =
-            both-within (L .place) x y w (least-none (beyond (L .place) x y) (length P) (omega (arith, far-is)) w l)
+            both-within (L .place) x y w (least-none (placeBeyond (L .place) x y) (length P) (omega
+            (arith, far-is)) w l)
 
         pub judged : L .nodes ≤ large .nodes → L .place ≤ farthest → Judged P R x y X
         judged nodes place = record {

@@ -10,9 +10,9 @@ use borrow.Author.Tests.{lt-ltb, le-ltb, ltb-false}
 use Rattle.laws.specs.Regions.{Only, only-refl, only-set}
 use Rattle.laws.specs.Tests.{by-eq, differ, either-first, either-second, neither, neither-is}
 use Rattle.table.specs.Table.{parent}
-use Rattle.monotone.specs.Monotone.{beyond}
+use Rattle.monotone.specs.Monotone.{placeBeyond}
 use Rattle.monotone.specs.Cones.{Part}
-use Rattle.monotone.specs.Rows.{Coordinate, DrawnPart}
+use Rattle.monotone.specs.Parts.{NearPlaces, DrawnPart}
 use Rattle.monotone.proofs.Stores.{store-here, store-else}
 
 ------------------------------------------------------------------------
@@ -28,20 +28,20 @@ second-decides false b e = absurd (differ e refl)
 -- Beyond the limit
 
 module _ (place : ℕ) (x y : List ℕ) (v : ℕ) where
-  pub beyond-across : place < getD x v 0 → beyond place x y v ≡ true
-  unfolding beyond
+  pub beyond-across : place < getD x v 0 → placeBeyond place x y v ≡ true
+  unfolding placeBeyond
   beyond-across h = either-first _ _ (lt-ltb place (getD x v 0) h)
 
-  pub beyond-up : place < getD y v 0 → beyond place x y v ≡ true
-  unfolding beyond
+  pub beyond-up : place < getD y v 0 → placeBeyond place x y v ≡ true
+  unfolding placeBeyond
   beyond-up h = either-second (ltb place (getD x v 0)) _ (lt-ltb place (getD y v 0) h)
 
-  pub within : getD x v 0 ≤ place → getD y v 0 ≤ place → beyond place x y v ≡ false
-  unfolding beyond
+  pub within : getD x v 0 ≤ place → getD y v 0 ≤ place → placeBeyond place x y v ≡ false
+  unfolding placeBeyond
   within h k = neither-is (le-ltb place (getD x v 0) h) (le-ltb place (getD y v 0) k)
 
-  pub both-within : beyond place x y v ≡ false → (getD x v 0 ≤ place) × (getD y v 0 ≤ place)
-  unfolding beyond
+  pub both-within : placeBeyond place x y v ≡ false → (getD x v 0 ≤ place) × (getD y v 0 ≤ place)
+  unfolding placeBeyond
   both-within e = let n = neither _ _ e in (ltb-false place (getD x v 0) (n .0), ltb-false place (getD y v 0) (n .1))
 
 ------------------------------------------------------------------------
@@ -59,7 +59,7 @@ offsetting-start P c at W = record {
   only = only-refl at (at + length P) W;
 }
 
-module _ {P c : List ℕ} (k : Coordinate P c) {at z : ℕ} {W X : List ℕ}
+module _ {P c : List ℕ} (k : NearPlaces P c) {at z : ℕ} {W X : List ℕ}
     (room : at + length P ≤ length W) (l : z < length P) where
   pub offsetting-step : {Y : List ℕ} → Offsetting P c at z W X
       → Y ≡ set X (at + z) (getD c z 0 + 2147483648 - getD c (parent P z) 0)
@@ -84,7 +84,7 @@ pub offsetting-end : {P c : List ℕ} {at z : ℕ} {W X : List ℕ} → length P
 offsetting-end h o = record { drawn = λ w l. o .drawn w (omega arith) }
 
 -- the parts are small
-pub drawn-small : {P c : List ℕ} {at : ℕ} {W : List ℕ} → Coordinate P c → DrawnPart P c at W
+pub drawn-small : {P c : List ℕ} {at : ℕ} {W : List ℕ} → NearPlaces P c → DrawnPart P c at W
     → (z : ℕ) → z < length P → Part (getD W (at + z) 0)
 drawn-small {P} {c} k d z l = record {
   least = omega (arith, d .drawn z l, k .within (parent P z) (k .inside z l));

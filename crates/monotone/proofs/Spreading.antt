@@ -1,5 +1,5 @@
 -- The cones of the paths from u down to every node: in the order from the last place down to the first a parent comes
--- before its children, so its cone is known. Edges that are turned round twice are as they were.
+-- before its children, so its cone is known. SmallEdges that are turned round twice are as they were.
 use mathlib.Core.Bool.{true, false}
 use mathlib.Core.List.{List, _∷_}
 use mathlib.Core.Path.{_≡_, refl, sym, ap, subst, subst⁻¹, _∙_}
@@ -12,10 +12,10 @@ use Rattle.table.specs.Ancestry.{under-root}
 use Rattle.table.specs.Table.{parent, under}
 use Rattle.table.specs.TableLaws.{Tree}
 use Rattle.monotone.specs.Plane.{Vec}
-use Rattle.monotone.specs.Cones.{Part, Edges, edgeAt, any, Grown}
+use Rattle.monotone.specs.Cones.{Part, SmallEdges, edgeAt, any, Grown}
 use Rattle.monotone.specs.PathEdges.{path-down}
-use Rattle.monotone.specs.Rows.{WithEdges, TurnedPart, Away, Turned, Said, Row, Climbed, Reached, Visited}
-use Rattle.monotone.specs.Rows.{known, grown, Ordered, Coned}
+use Rattle.monotone.specs.Parts.{WithEdges, TurnedPart, Away, Turned, Said, Row, Climbed, Reached, ConeKnown}
+use Rattle.monotone.specs.Parts.{known, grown, ChildrenFirst, Coned}
 use Rattle.monotone.proofs.Growth.{holds-formed}
 use Rattle.monotone.proofs.Stores.{store-here, store-else}
 use Rattle.monotone.proofs.Climbing.{edges-kept, vectors-kept, said-some, told-store}
@@ -24,7 +24,8 @@ use Rattle.monotone.proofs.Climbing.{edges-kept, vectors-kept, said-som
 -- What stays
 
 -- the last region is all that an order depends on
-pub ordered-kept : {P W X : List ℕ} → ((j : ℕ) → 3 * length P ≤ j → getD X j 0 ≡ getD W j 0) → Ordered P W → Ordered P X
+pub ordered-kept : {P W X : List ℕ} → ((j : ℕ) → 3 * length P ≤ j → getD X j 0 ≡ getD W j 0) → ChildrenFirst P W
+    → ChildrenFirst P X
 ordered-kept {P} {W} {X} same o = record {
   number = o .number;
   inside = λ j l. omega (arith, same (3 * length P + j) (omega arith), o .inside j l);
@@ -65,12 +66,12 @@ edges-away {P} {u} {W} {X} t long r = record {
 
 pub record Spreading (P : List ℕ) (u j : ℕ) (W X : List ℕ) : Type 0 where
   pub few : j ≤ length P
-  pub order : Ordered P X
+  pub order : ChildrenFirst P X
   pub row : Row P (edgeAt (length P) W) u X
   pub done : (v : ℕ) → v < length P → j < order .number v → getD X v 0 ≡ 0 → ⊥
   pub only : Only 0 (length P) W X
 
-pub spreading-start : {P : List ℕ} {u : ℕ} {W : List ℕ} → Ordered P W
+pub spreading-start : {P : List ℕ} {u : ℕ} {W : List ℕ} → ChildrenFirst P W
     → Row P (edgeAt (length P) W) u W → Spreading P u (length P) W W
 spreading-start {P} {u} {W} o r = record {
   few = omega arith;
@@ -81,7 +82,7 @@ spreading-start {P} {u} {W} o r = record {
 }
 
 -- at the place before j
-module _ {P R : List ℕ} (T : Tree P R) {u : ℕ} (l : u < length P) {W : List ℕ} (edges : Edges (length P) W)
+module _ {P R : List ℕ} (T : Tree P R) {u : ℕ} (l : u < length P) {W : List ℕ} (edges : SmallEdges (length P) W)
     {j : ℕ} {X : List ℕ}
     (some : 0 < j) (s : Spreading P u j W X) where
   abbrev node : ℕ
@@ -118,7 +119,7 @@ module _ {P R : List ℕ} (T : Tree P R) {u : ℕ} (l : u < length P) {W : List 
     formed = λ e. holds-formed (parent-said e .holds);
   }
 
-  pub spreading-step : {Y : List ℕ} → Visited P X node Y → Spreading P u (j - 1) W Y
+  pub spreading-step : {Y : List ℕ} → ConeKnown P X node Y → Spreading P u (j - 1) W Y
   unfolding ordered-kept
   spreading-step {Y} (known k q) = subst⁻¹ (Spreading P u (j - 1) W) q (record {
     few = omega arith;
@@ -198,8 +199,8 @@ module _ {P : List ℕ} {u j : ℕ} {W A C X Y : List ℕ} (cleared : Only 0 (le
     up = part-between (omega arith) (spread .only) (back .away .up) (only-refl 0 (length P) Y);
   }
 
-  beyond : (k : ℕ) → length P ≤ k → getD Y k 0 ≡ getD W k 0
-  beyond k h =
+  placeBeyond : (k : ℕ) → length P ≤ k → getD Y k 0 ≡ getD W k 0
+  placeBeyond k h =
       by-lt k (2 * length P)
       (λ l. at (length P) (k - length P) (omega arith)
       (part-twice (length P) (away .across) (home .across) (k - length P) (omega arith)))
@@ -221,6 +222,6 @@ module _ {P : List ℕ} {u j : ℕ} {W A C X Y : List ℕ} (cleared : Only 0 (le
     only = record {
       long = back .only .long ∙ spread .only .long ∙ climbed .only .long ∙ cleared .long;
       below = λ k l. absurd (omega arith);
-      above = beyond;
+      above = placeBeyond;
     };
   }

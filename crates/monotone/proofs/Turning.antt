@@ -10,9 +10,9 @@ use Rattle.laws.specs.Tests.{by-eq, by-test, differ, false-of}
 use Rattle.table.specs.Ancestry.{under-refl, under-parent, under-trans, under-on, under-steps, climb-root}
 use Rattle.table.specs.Table.{parent, climb, under}
 use Rattle.table.specs.TableLaws.{Tree}
-use Rattle.monotone.specs.Cones.{Part, Edges}
+use Rattle.monotone.specs.Cones.{Part, SmallEdges}
 use Rattle.monotone.specs.PathEdges.{child-below}
-use Rattle.monotone.specs.Rows.{EdgeTurned, TurnedPart, Away}
+use Rattle.monotone.specs.Parts.{EdgeTurned, TurnedPart, Away}
 use Rattle.monotone.proofs.Stores.{store-here, store-else}
 
 ------------------------------------------------------------------------
@@ -67,7 +67,7 @@ pub record Turning (P : List ℕ) (u z : ℕ) (W X : List ℕ) : Type 0 where
   pub up : TurningPart P u z (2 * length P) W X
 
 -- one store, then the other
-module _ (n z : ℕ) (some : 0 < z) (inside : z < n) {W : List ℕ} (edges : Edges n W) where
+module _ (n z : ℕ) (some : 0 < z) (inside : z < n) {W : List ℕ} (edges : SmallEdges n W) where
   pub edge-across : (n + z < length W) × Part (getD W (n + z) 0)
   edge-across = (omega arith, edges .across z some inside)
 
@@ -123,7 +123,7 @@ module _ {P R : List ℕ} (T : Tree P R) {u : ℕ} (l : u < length P) {W : List 
 
 -- the edges stay small
 pub turning-edges : {P : List ℕ} {u z : ℕ} {W X : List ℕ} → Turning P u z W X
-    → length X ≡ length W → Edges (length P) W → Edges (length P) X
+    → length X ≡ length W → SmallEdges (length P) W → SmallEdges (length P) X
 turning-edges {P} {u} {z} {W} {X} t long e = record {
   few = e .few;
   long = long ∙ e .long;

@@ -11,7 +11,7 @@ use lib.Signed.{mag, ltZ, _<ℤ_, _≤ℤ_, ltZ-yes, ltZ-no}
 use mir.Syntax.{w64}
 use mir.Val.{toZ, ofZ, SFits}
 use mir.ValLaws.{toZ-ofZ, toZ-pos}
-use Rattle.monotone.specs.Cones.{Small}
+use Rattle.monotone.specs.Cones.{SmallPart}
 
 ------------------------------------------------------------------------
 -- Absolute values
@@ -47,45 +47,45 @@ fits : (z : ℤ) → natAbs z < 2 ^ 63 → SFits w64 z
 fits z h = record { sfits = lt-of-le-of-lt (mag-natAbs z) h }
 
 ------------------------------------------------------------------------
--- Small numbers
+-- SmallPart numbers
 
 abbrev back : ℤ → ℤ
 back z = toZ w64 (ofZ w64 z)
 
-pub small-back : (z : ℤ) → Small z → back z ≡ z
+pub small-back : (z : ℤ) → SmallPart z → back z ≡ z
 small-back z h = toZ-ofZ w64 z (fits z (omega arith))
 
 -- what is read back is small
-pub back-small : (z : ℤ) → Small z → Small (back z)
-back-small z h = subst⁻¹ Small (small-back z h) h
+pub back-small : (z : ℤ) → SmallPart z → SmallPart (back z)
+back-small z h = subst⁻¹ SmallPart (small-back z h) h
 
 -- a number of 1 to 2^32 - 1 without the 2^31 that was added to it
 module _ (n : ℕ) (some : 1 ≤ n) (most : n < 2 ^ 32) where
   shifted : toZ w64 n -ℤ pos 2147483648 ≡ pos n -ℤ pos 2147483648
   shifted = ap (λ (z : ℤ). z -ℤ pos 2147483648) (toZ-pos w64 n (omega arith))
 
-  shifted-small : Small (pos n -ℤ pos 2147483648)
+  shifted-small : SmallPart (pos n -ℤ pos 2147483648)
   shifted-small =
       either-le (ltb n 2147483648) (2147483648 - suc n) (n - 2147483648) 2147483647 (omega arith) (omega arith)
 
   pub part-fits : SFits w64 (toZ w64 n -ℤ pos 2147483648)
   part-fits =
       subst⁻¹ (SFits w64) shifted
-      (fits (pos n -ℤ pos 2147483648) (let s : Small (pos n -ℤ pos 2147483648) = shifted-small in omega arith))
+      (fits (pos n -ℤ pos 2147483648) (let s : SmallPart (pos n -ℤ pos 2147483648) = shifted-small in omega arith))
 
   pub part-is : back (toZ w64 n -ℤ pos 2147483648) ≡ pos n -ℤ pos 2147483648
   part-is = toZ-ofZ w64 (toZ w64 n -ℤ pos 2147483648) part-fits ∙ shifted
 
-  pub part-small : Small (back (toZ w64 n -ℤ pos 2147483648))
-  part-small = subst⁻¹ Small part-is shifted-small
+  pub part-small : SmallPart (back (toZ w64 n -ℤ pos 2147483648))
+  part-small = subst⁻¹ SmallPart part-is shifted-small
 
 ------------------------------------------------------------------------
 -- Products
 
-product : (a b : ℤ) → Small a → Small b → natAbs (a *ℤ b) ≤ 4611686014132420609
+product : (a b : ℤ) → SmallPart a → SmallPart b → natAbs (a *ℤ b) ≤ 4611686014132420609
 product a b h k = subst⁻¹ (λ (n : ℕ). n ≤ 4611686014132420609) (natAbs-mul a b) (mul-le-mul h k)
 
-module _ (a b : ℤ) (sa : Small a) (sb : Small b) where
+module _ (a b : ℤ) (sa : SmallPart a) (sb : SmallPart b) where
   back-product : back a *ℤ back b ≡ a *ℤ b
   back-product = ap₂ _*ℤ_ (small-back a sa) (small-back b sb)
 
@@ -97,7 +97,7 @@ module _ (a b : ℤ) (sa : Small a) (sb : Small b) where
   pub product-is : back (back a *ℤ back b) ≡ a *ℤ b
   product-is = toZ-ofZ w64 (back a *ℤ back b) product-fits ∙ back-product
 
-module _ (a b c d : ℤ) (sa : Small a) (sb : Small b) (sc : Small c) (sd : Small d) where
+module _ (a b c d : ℤ) (sa : SmallPart a) (sb : SmallPart b) (sc : SmallPart c) (sd : SmallPart d) where
   abbrev ab : ℤ
   ab = back (back a *ℤ back b)
 
@@ -147,7 +147,7 @@ module _ {r z : ℤ} (e : r ≡ z) (f : mag r < 2 ^ 63) where
   below-no t = ltZ-no (subst (λ (y : ℤ). T (not (ltZ y (pos 0)))) read (subst⁻¹ (λ (b : Bool). T (not b)) t tt))
 
 -- a small number whose bits are zero
-pub zero-bits : (z : ℤ) → Small z → ofZ w64 z ≡ 0 → z ≡ pos 0
+pub zero-bits : (z : ℤ) → SmallPart z → ofZ w64 z ≡ 0 → z ≡ pos 0
 zero-bits (pos n) h e = ap pos e
 zero-bits (negsuc n) h e = absurd (omega arith)
 

@@ -2,14 +2,14 @@
 -- its edge, and the post-order. What the contracts of the inner functions cite.
 --
 --   vec u                 == a vector of the code as a vector of the plane
---   Small z               == a difference of two places of 0 to 2,147,483,647
+--   SmallPart z               == a difference of two places of 0 to 2,147,483,647
 --   Near u                == both parts of u are small
 --   After m lo hi u us    == what is left of a cone where a move says m
---   Moved lo hi u m       == a move is right
+--   RightMove lo hi u m       == a move is right
 --   partAt W i            == the number at i as a part of a vector; it is stored with 2,147,483,648 added
 --   edgeAt n W z          == the vector of the edge of node z
---   Edges n W             == the nodes from 1 on have edges with small parts
---   Pair n k              == k is a cone of two edges: the one clockwise of the other times 65,536, and that other
+--   SmallEdges n W             == the nodes from 1 on have edges with small parts
+--   ConePair n k              == k is a cone of two edges: the one clockwise of the other times 65,536, and that other
 --   Holds n side edge ..  == k stands for the vectors us: 1 for none, 2 where no half plane holds them, or the pair of
 --                            their cone, whose two edges pass the test `side`
 --   any                   == every edge may be a side
@@ -34,12 +34,12 @@ use Rattle.monotone.specs.Plane.{Vec, Cone, HasHalfPlane}
 abbrev pub vec : Vector → Vec
 vec u = record { across = u .across; up = u .up }
 
-abbrev pub Small : ℤ → Type 0
-Small z = natAbs z ≤ 2147483647
+abbrev pub SmallPart : ℤ → Type 0
+SmallPart z = natAbs z ≤ 2147483647
 
 pub record Near (u : Vector) : Type 0 where
-  pub across-near : Small (u .across)
-  pub up-near : Small (u .up)
+  pub across-near : SmallPart (u .across)
+  pub up-near : SmallPart (u .up)
 
 abbrev pub After : Move → Vec → Vec → Vec → List Vec → Type 0
 After Keep lo hi u us = Cone lo hi (u ∷ us)
@@ -47,11 +47,11 @@ After High lo hi u us = Cone lo u (u ∷ us)
 After Low lo hi u us = Cone u hi (u ∷ us)
 After Never lo hi u us = HasHalfPlane (u ∷ us) → ⊥
 
-pub record Moved (lo hi u : Vec) (m : Move) : Type 0 where
+pub record RightMove (lo hi u : Vec) (m : Move) : Type 0 where
   pub after : (us : List Vec) → Cone lo hi us → After m lo hi u us
 
 ------------------------------------------------------------------------
--- Edges
+-- SmallEdges
 
 abbrev pub partAt : List ℕ → ℕ → ℤ
 partAt W i = pos (getD W i 0) -ℤ pos 2147483648
@@ -64,7 +64,7 @@ pub record Part (k : ℕ) : Type 0 where
   pub least : 1 ≤ k
   pub most : k < 4294967296
 
-pub record Edges (n : ℕ) (W : List ℕ) : Type 0 where
+pub record SmallEdges (n : ℕ) (W : List ℕ) : Type 0 where
   pub few : n ≤ 65536
   pub long : length W ≡ 4 * n
   pub across : (z : ℕ) → 0 < z → z < n → Part (getD W (n + z) 0)
@@ -73,7 +73,7 @@ pub record Edges (n : ℕ) (W : List ℕ) : Type 0 where
 ------------------------------------------------------------------------
 -- Cones
 
-pub record Pair (n k : ℕ) : Type 0 where
+pub record ConePair (n k : ℕ) : Type 0 where
   pub low : 0 < k / 65536
   pub low-in : k / 65536 < n
   pub high : 0 < k % 65536
@@ -82,7 +82,8 @@ pub record Pair (n k : ℕ) : Type 0 where
 pub data Holds (n : ℕ) (side : ℕ → Bool) (edge : ℕ → Vec) (k : ℕ) (us : List Vec) : Type 0 where
   empty : k ≡ 1 → us ≡ [] → Holds n side edge k us
   shut : k ≡ 2 → (HasHalfPlane us → ⊥) → Holds n side edge k us
-  wide : Pair n k → side (k / 65536) ≡ true → side (k % 65536) ≡ true → Cone (edge (k / 65536)) (edge (k % 65536)) us
+  wide : ConePair n k → side (k / 65536) ≡ true → side (k % 65536) ≡ true → Cone (edge (k / 65536)) (edge
+      (k % 65536)) us
       → Holds n side edge k us
 
 abbrev pub any : ℕ → Bool
@@ -90,7 +91,7 @@ any z = true
 
 pub record Formed (n k : ℕ) : Type 0 where
   pub some : k ≡ 0 → ⊥
-  pub pair : (k ≡ 1 → ⊥) → (k ≡ 2 → ⊥) → Pair n k
+  pub pair : (k ≡ 1 → ⊥) → (k ≡ 2 → ⊥) → ConePair n k
 
 -- 2 for a zero vector, else the pair of the edge and itself
 pub data Alone (z : ℕ) (e : Vec) (r : ℕ) : Type 0 where
@@ -98,7 +99,7 @@ pub data Alone (z : ℕ) (e : Vec) (r : ℕ) : Type 0 where
   one : ((e .across ≡ pos 0) × (e .up ≡ pos 0) → ⊥) → r ≡ z * 65536 + z → Alone z e r
 
 pub record Growing (n : ℕ) (W : List ℕ) (k z : ℕ) : Type 0 where
-  pub edges : Edges n W
+  pub edges : SmallEdges n W
   pub some : 0 < z
   pub inside : z < n
   pub formed : Formed n k

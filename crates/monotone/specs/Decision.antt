@@ -23,7 +23,7 @@ use Rattle.laws.specs.SearchLaws.{least-below, least-passes, least-none}
 use Rattle.laws.specs.Signs.{≤≥}
 use Rattle.laws.specs.Tests.{by-test, by-eq, both, both-is, differ, neither}
 use Rattle.table.specs.declared.Limits.{Limits}
-use Rattle.table.specs.Table.{climb, rise}
+use Rattle.table.specs.Table.{climb, stepsUp}
 use Rattle.monotone.specs.declared.Verdict.{Verdict}
 use Rattle.monotone.specs.declared.Verdict.the-variants.{Monotone, Turns, Refused}
 use Rattle.monotone.specs.Monotone.{HasDirection, FirstTurn, checkFault, Says}
@@ -135,7 +135,7 @@ downward P x y zero v us = us
 downward P x y (suc k) v us = hop x y (climb P (suc k) v) (climb P k v) ∷ downward P x y k v us
 
 unfoldable pub pathVectors : List ℕ → List ℕ → List ℕ → ℕ → ℕ → List Vec
-pathVectors P x y u v = upward P x y (rise P u v) u (downward P x y (rise P v u) v [])
+pathVectors P x y u v = upward P x y (stepsUp P u v) u (downward P x y (stepsUp P v u) v [])
 
 module _ (P x y : List ℕ) (d : Vec) where
   -- a predicate that holds below k and at k
@@ -176,13 +176,13 @@ module _ (P x y : List ℕ) (u v : ℕ) where
   unfolding pathVectors
   has-direction h =
       let d : Vec = h .direction in
-      let r = up-all P x y d (rise P u v) u (downward P x y (rise P v u) v []) (h .ahead) in
+      let r = up-all P x y d (stepsUp P u v) u (downward P x y (stepsUp P v u) v []) (h .ahead) in
       record {
         d = d .across;
         e = d .up;
         rises = record {
           going-up = λ i l. record { above-0 = r .0 i l };
-          going-down = λ j l. record { above-0 = down-all P x y d (rise P v u) v [] (r .1) j l };
+          going-down = λ j l. record { above-0 = down-all P x y d (stepsUp P v u) v [] (r .1) j l };
         };
       }
 
@@ -192,9 +192,9 @@ module _ (P x y : List ℕ) (u v : ℕ) where
       let d : Vec = record { across = h .d; up = h .e } in
       record {
         direction = d;
-        ahead = all-up P x y d (rise P u v) u (downward P x y (rise P v u) v [])
+        ahead = all-up P x y d (stepsUp P u v) u (downward P x y (stepsUp P v u) v [])
             (λ i l. h .rises .going-up i l .above-0)
-            (all-down P x y d (rise P v u) v [] (λ j l. h .rises .going-down j l .above-0) tt);
+            (all-down P x y d (stepsUp P v u) v [] (λ j l. h .rises .going-down j l .above-0) tt);
       }
 
 ------------------------------------------------------------------------

@@ -4,11 +4,11 @@ use mathlib.Core.Path.{_≡_, refl}
 use Prim.Native.Nat.{ℕ, _*_}
 use lib.ListN.{length}
 use Rattle.laws.specs.Search.{count, least}
-use Rattle.table.specs.Table.{climb, leads, isChild, children, isChildAt, under, rise, strayParent, badRank, adrift}
+use Rattle.table.specs.Table.{climb, leads, isChild, children, isChildAt, under, stepsUp, strayParent, badRank, adrift}
 use Rattle.table.specs.Table.{allLong, shapeFault, treeFault, tableFault, checked}
 use Rattle.monotone.specs.declared.Verdict.{Verdict}
 use Rattle.monotone.specs.declared.Verdict.the-variants.{Monotone, Turns, Refused}
-use Rattle.monotone.specs.Monotone.{beyond, checkFault, Says}
+use Rattle.monotone.specs.Monotone.{placeBeyond, checkFault, Says}
 use Rattle.monotone.specs.MonotoneLaws.{says-one}
 use Rattle.monotone.specs.Decision.{widen, span, upward, downward, pathVectors, turnsAt, secondNode, firstNode}
 use Rattle.monotone.specs.Decision.{decide, decide-says}
@@ -22,8 +22,8 @@ pub record Case : Type 0 where
   pub answer : Verdict
 
 unfoldable pub decided : Case → Verdict
-unfolding count least climb leads isChild children isChildAt under rise strayParent badRank adrift allLong
-    shapeFault treeFault tableFault beyond checkFault
+unfolding count least climb leads isChild children isChildAt under stepsUp strayParent badRank adrift allLong
+    shapeFault treeFault tableFault placeBeyond checkFault
     widen span upward downward pathVectors turnsAt secondNode firstNode decide
 decided c = decide checked (c .parents) (c .ranks) (c .x) (c .y) (c .work)
 

@@ -3,6 +3,6 @@ pub mod MonotoneLaws
 pub mod Plane
 pub mod PathEdges
 pub mod Cones
-pub mod Rows
+pub mod Parts
 pub mod Decision
 pub mod Examples

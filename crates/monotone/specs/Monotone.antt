@@ -1,7 +1,7 @@
 -- Monotone drawings (document 01, "Check"; refusals 14 and 15).
 --
 --   HasDirection P x y u v    == some whole numbers d and e, negative ones allowed, make every edge of the path rise
---   beyond place x y v        == refusal 15: x or y of v is above the largest place
+--   placeBeyond place x y v        == refusal 15: x or y of v is above the largest place
 --   checkFault L ..           == refusals 1, 14, 3 to 7, 15 at the limits L
 --   AllDirected P x y         == every pair has a direction. Of pairs the smaller node is first
 --   FirstTurn P x y u v       == (u, v) is the first pair that has none
@@ -34,13 +34,13 @@ pub record HasDirection (P x y : List ℕ) (u v : ℕ) : Type 0 where
 ------------------------------------------------------------------------
 -- The check
 
-unfoldable pub beyond : ℕ → List ℕ → List ℕ → ℕ → Bool
-beyond place x y v = ltb place (getD x v 0) || ltb place (getD y v 0)
+unfoldable pub placeBeyond : ℕ → List ℕ → List ℕ → ℕ → Bool
+placeBeyond place x y v = ltb place (getD x v 0) || ltb place (getD y v 0)
 
 unfoldable pub checkFault : Limits → List ℕ → List ℕ → List ℕ → List ℕ → ℕ → Option Refusal
 checkFault L P R x y work =
     tableFault L P R (allLong (length P) (x ∷ y ∷ [])) work
-    orElse refuseLeast (L .far) (length P) (beyond (L .place) x y)
+    orElse refuseLeast (L .far) (length P) (placeBeyond (L .place) x y)
 
 pub record AllDirected (P x y : List ℕ) : Type 0 where
   pub directed : (u v : ℕ) → u < v → v < length P → HasDirection P x y u v

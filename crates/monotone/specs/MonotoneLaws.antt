@@ -22,7 +22,7 @@ use Rattle.table.specs.Paths.{step, Rises}
 use Rattle.monotone.specs.Monotone.{Says}
 
 ------------------------------------------------------------------------
--- Edges
+-- SmallEdges
 
 pub no-length-rises : (x y : List ℕ) (d e : ℤ) (a b : ℕ) → getD x a 0 ≡ getD x b 0 → getD y a 0 ≡ getD y b 0
     → Rises x y d e a b → ⊥

@@ -15,17 +15,17 @@ use lib.ListN.{length}
 use Rattle.laws.specs.SearchLaws.{least-cong}
 use Rattle.laws.specs.Tests.{by-lt, differ, false-of, same-test}
 use Rattle.table.specs.Ancestry.{climb-shift, climb-onward, climb-inside, depth, depth-parent, under-climb}
-use Rattle.table.specs.Ancestry.{under-parent, under-refl, under-trans, under-antisym, under-on, rise-common}
-use Rattle.table.specs.Ancestry.{rise-lowest, rise-is, rise-zero, rise-way, rise-meet}
+use Rattle.table.specs.Ancestry.{under-parent, under-refl, under-trans, under-antisym, under-on, stepsUp-common}
+use Rattle.table.specs.Ancestry.{stepsUp-lowest, stepsUp-is, stepsUp-zero, stepsUp-way, stepsUp-meet}
 use Rattle.table.specs.Paths.{step}
-use Rattle.table.specs.Table.{parent, climb, under, rise}
+use Rattle.table.specs.Table.{parent, climb, under, stepsUp}
 use Rattle.table.specs.TableLaws.{Tree}
 use Rattle.monotone.specs.Monotone.{HasDirection}
 use Rattle.monotone.specs.Plane.{Vec, Ahead, AllAhead, HasHalfPlane}
 
 pub record PathAhead (P : List ℕ) (edge : ℕ → Vec) (d : Vec) (u v : ℕ) : Type 0 where
-  pub going-up : (i : ℕ) → i < rise P u v → Ahead d (edge (climb P i u))
-  pub going-down : (j : ℕ) → j < rise P v u → Ahead d (edge (climb P j v))
+  pub going-up : (i : ℕ) → i < stepsUp P u v → Ahead d (edge (climb P i u))
+  pub going-down : (j : ℕ) → j < stepsUp P v u → Ahead d (edge (climb P j v))
 
 pub record OnPath (P : List ℕ) (edge : ℕ → Vec) (u v : ℕ) (us : List Vec) : Type 0 where
   pub path : (d : Vec) → AllAhead d us → PathAhead P edge d u v
@@ -48,53 +48,53 @@ module _ {P R : List ℕ} (T : Tree P R) where
       omega (arith, depth-parent T v z l, ap (depth P) e))
 
   -- the steps up to an ancestor lead there
-  pub rise-to : (u w : ℕ) → u < length P → w < length P → under P w u ≡ true → climb P (rise P u w) u ≡ w
+  pub stepsUp-to : (u w : ℕ) → u < length P → w < length P → under P w u ≡ true → climb P (stepsUp P u w) u ≡ w
   unfolding climb
-  rise-to u w l m t = rise-meet T u w l m ∙ ap (λ (k : ℕ). climb P k w) (rise-zero T w u m l t)
+  stepsUp-to u w l m t = stepsUp-meet T u w l m ∙ ap (λ (k : ℕ). climb P k w) (stepsUp-zero T w u m l t)
 
   -- to an ancestor's parent it is one step more
-  pub rise-parent : (u w : ℕ) → u < length P → w < length P → 0 < w → under P w u ≡ true
-      → rise P u (parent P w) ≡ suc (rise P u w)
+  pub stepsUp-parent : (u w : ℕ) → u < length P → w < length P → 0 < w → under P w u ≡ true
+      → stepsUp P u (parent P w) ≡ suc (stepsUp P u w)
   unfolding climb
-  rise-parent u w l m z t =
-      rise-is T u (parent P w) (suc (rise P u w)) l (T .inside w m)
-      (subst⁻¹ (λ (a : ℕ). under P a (parent P w) ≡ true) (ap (parent P) (rise-to u w l m t))
+  stepsUp-parent u w l m z t =
+      stepsUp-is T u (parent P w) (suc (stepsUp P u w)) l (T .inside w m)
+      (subst⁻¹ (λ (a : ℕ). under P a (parent P w) ≡ true) (ap (parent P) (stepsUp-to u w l m t))
       (under-refl T (parent P w) (T .inside w m)))
       (λ i h. false-of (before i h))
     where
-      before : (i : ℕ) → i < suc (rise P u w) → under P (climb P i u) (parent P w) ≡ true → ⊥
+      before : (i : ℕ) → i < suc (stepsUp P u w) → under P (climb P i u) (parent P w) ≡ true → ⊥
       before i h s =
           let inside : climb P i u < length P = climb-inside P (T .inside) i u l in
-          let onward : climb P (rise P u w - i) (climb P i u) ≡ w =
-          climb-onward P (rise P u w) i u (omega arith) ∙ rise-to u w l m t in
+          let onward : climb P (stepsUp P u w - i) (climb P i u) ≡ w =
+          climb-onward P (stepsUp P u w) i u (omega arith) ∙ stepsUp-to u w l m t in
           let same : climb P i u ≡ w = under-antisym T (climb P i u) w inside m
           (under-trans T (climb P i u) (parent P w) w m s (under-parent T w m))
           (subst (λ (a : ℕ). under P a (climb P i u) ≡ true) onward
-          (under-climb T (rise P u w - i) (climb P i u) inside)) in
+          (under-climb T (stepsUp P u w - i) (climb P i u) inside)) in
           differ (subst (λ (a : ℕ). under P a (parent P w) ≡ true) same s) (child-below w z m)
 
   module _ (u v : ℕ) (l : u < length P) (m : v < length P) (t : under P v u ≡ false) where
     -- to a node that is no ancestor it is as many steps up as to its parent
-    pub rise-same : rise P u v ≡ rise P u (parent P v)
-    unfolding rise
-    rise-same = least-cong _ _ (length P) (λ k h. same-test _ _
+    pub stepsUp-same : stepsUp P u v ≡ stepsUp P u (parent P v)
+    unfolding stepsUp
+    stepsUp-same = least-cong _ _ (length P) (λ k h. same-test _ _
         (λ s. under-on T (climb P k u) v m s
         (λ e. differ (subst⁻¹ (λ (a : ℕ). under P a u ≡ true) e (under-climb T k u l)) t))
         (λ s. under-trans T (climb P k u) (parent P v) v m s (under-parent T v m)))
 
     -- and one step more down
-    pub rise-more : rise P v u ≡ suc (rise P (parent P v) u)
+    pub stepsUp-more : stepsUp P v u ≡ suc (stepsUp P (parent P v) u)
     unfolding climb
-    rise-more =
-        rise-is T v u (suc (rise P (parent P v) u)) m l
-        (subst (λ (a : ℕ). under P a u ≡ true) (climb-shift P (rise P (parent P v) u) v)
-        (rise-common T (parent P v) u (T .inside v m) l))
+    stepsUp-more =
+        stepsUp-is T v u (suc (stepsUp P (parent P v) u)) m l
+        (subst (λ (a : ℕ). under P a u ≡ true) (climb-shift P (stepsUp P (parent P v) u) v)
+        (stepsUp-common T (parent P v) u (T .inside v m) l))
         before
       where
-        before : (k : ℕ) → k < suc (rise P (parent P v) u) → under P (climb P k v) u ≡ false
+        before : (k : ℕ) → k < suc (stepsUp P (parent P v) u) → under P (climb P k v) u ≡ false
         before zero h = t
         before (suc k) h =
-            subst (λ (a : ℕ). under P a u ≡ false) (climb-shift P k v) (rise-lowest T (parent P v) u k (omega arith))
+            subst (λ (a : ℕ). under P a u ≡ false) (climb-shift P k v) (stepsUp-lowest T (parent P v) u k (omega arith))
 
 ------------------------------------------------------------------------
 -- Growing a path
@@ -103,8 +103,8 @@ module _ {P R : List ℕ} (T : Tree P R) (edge : ℕ → Vec) (u : ℕ) (l : u <
   pub path-none : OnPath P edge u u []
   path-none = record {
     path = λ d a. record {
-      going-up = λ i h. absurd (omega (arith, rise-zero T u u l l (under-refl T u l)));
-      going-down = λ i h. absurd (omega (arith, rise-zero T u u l l (under-refl T u l)));
+      going-up = λ i h. absurd (omega (arith, stepsUp-zero T u u l l (under-refl T u l)));
+      going-down = λ i h. absurd (omega (arith, stepsUp-zero T u u l l (under-refl T u l)));
     };
     ahead = λ d p. tt;
   }
@@ -115,25 +115,25 @@ module _ {P R : List ℕ} (T : Tree P R) (edge : ℕ → Vec) (u : ℕ) (l : u <
   unfolding climb
   path-up w us m z t o = record {
     path = λ d a. record {
-      going-up = λ i h. by-lt i (rise P u w) (λ b. o .path d (a .1) .going-up i b) (λ b.
-          let e : i ≡ rise P u w = omega (arith, longer) in
+      going-up = λ i h. by-lt i (stepsUp P u w) (λ b. o .path d (a .1) .going-up i b) (λ b.
+          let e : i ≡ stepsUp P u w = omega (arith, longer) in
           subst⁻¹ (λ (a : ℕ). Ahead d (edge a)) (ap (λ (k : ℕ). climb P k u) e ∙ to) (a .0));
-      going-down = λ j h. absurd (omega (arith, rise-zero T (parent P w) u (T .inside w m) l above));
+      going-down = λ j h. absurd (omega (arith, stepsUp-zero T (parent P w) u (T .inside w m) l above));
     };
     ahead = λ d p. (
-      subst (λ (a : ℕ). Ahead d (edge a)) to (p .going-up (rise P u w) (omega (arith, longer))),
+      subst (λ (a : ℕ). Ahead d (edge a)) to (p .going-up (stepsUp P u w) (omega (arith, longer))),
       o .ahead d (record {
         going-up = λ i h. p .going-up i (omega (arith, longer));
-        going-down = λ j h. absurd (omega (arith, rise-zero T w u m l t));
+        going-down = λ j h. absurd (omega (arith, stepsUp-zero T w u m l t));
       }),
     );
   }
     where
-      to : climb P (rise P u w) u ≡ w
-      to = rise-to T u w l m t
+      to : climb P (stepsUp P u w) u ≡ w
+      to = stepsUp-to T u w l m t
 
-      longer : rise P u (parent P w) ≡ suc (rise P u w)
-      longer = rise-parent T u w l m z t
+      longer : stepsUp P u (parent P w) ≡ suc (stepsUp P u w)
+      longer = stepsUp-parent T u w l m z t
 
       above : under P (parent P w) u ≡ true
       above = under-trans T (parent P w) w u l (under-parent T w m) t
@@ -144,21 +144,21 @@ module _ {P R : List ℕ} (T : Tree P R) (edge : ℕ → Vec) (u : ℕ) (l : u <
   unfolding climb
   path-down v us m t o = record {
     path = λ d a. record {
-      going-up = λ i h. o .path d (a .1) .going-up i (omega (arith, rise-same T u v l m t));
-      going-down = λ j h. down d a j (omega (arith, rise-more T u v l m t));
+      going-up = λ i h. o .path d (a .1) .going-up i (omega (arith, stepsUp-same T u v l m t));
+      going-down = λ j h. down d a j (omega (arith, stepsUp-more T u v l m t));
     };
     ahead = λ d p. (
-      p .going-down 0 (omega (arith, rise-more T u v l m t)),
+      p .going-down 0 (omega (arith, stepsUp-more T u v l m t)),
       o .ahead d (record {
-        going-up = λ i h. p .going-up i (omega (arith, rise-same T u v l m t));
+        going-up = λ i h. p .going-up i (omega (arith, stepsUp-same T u v l m t));
         going-down = λ j h.
             subst⁻¹ (λ (a : ℕ). Ahead d (edge a)) (climb-shift P j v)
-            (p .going-down (suc j) (omega (arith, rise-more T u v l m t)));
+            (p .going-down (suc j) (omega (arith, stepsUp-more T u v l m t)));
       }),
     );
   }
     where
-      down : (d : Vec) → AllAhead d (edge v ∷ us) → (j : ℕ) → j < suc (rise P (parent P v) u)
+      down : (d : Vec) → AllAhead d (edge v ∷ us) → (j : ℕ) → j < suc (stepsUp P (parent P v) u)
           → Ahead d (edge (climb P j v))
       down d a zero h = a .0
       down d a (suc j) h =
@@ -170,21 +170,21 @@ module _ {P R : List ℕ} (T : Tree P R) (edge : ℕ → Vec) (u : ℕ) (l : u <
 module _ {P R : List ℕ} (T : Tree P R) (x y : List ℕ) (edge : ℕ → Vec) (u v : ℕ) (l : u < length P) (m : v < length P)
     (drawn : (z : ℕ) → 0 < z → z < length P → edge z ≡ away P x y u z) where
   -- an edge that the path goes up, and one that it goes down
-  up-edge : (i : ℕ) → i < rise P u v → edge (climb P i u) ≡ hop x y (climb P i u) (climb P (suc i) u)
+  up-edge : (i : ℕ) → i < stepsUp P u v → edge (climb P i u) ≡ hop x y (climb P i u) (climb P (suc i) u)
   unfolding climb away
   up-edge i h =
-      drawn (climb P i u) (rise-way T u v i m h) (climb-inside P (T .inside) i u l)
+      drawn (climb P i u) (stepsUp-way T u v i m h) (climb-inside P (T .inside) i u l)
       ∙ ap (λ (b : Bool). cond b (hop x y (climb P i u) (climb P (suc i) u))
       (hop x y (climb P (suc i) u) (climb P i u)))
       (under-climb T i u l)
 
-  down-edge : (j : ℕ) → j < rise P v u → edge (climb P j v) ≡ hop x y (climb P (suc j) v) (climb P j v)
+  down-edge : (j : ℕ) → j < stepsUp P v u → edge (climb P j v) ≡ hop x y (climb P (suc j) v) (climb P j v)
   unfolding climb away
   down-edge j h =
-      drawn (climb P j v) (rise-way T v u j l h) (climb-inside P (T .inside) j v m)
+      drawn (climb P j v) (stepsUp-way T v u j l h) (climb-inside P (T .inside) j v m)
       ∙ ap (λ (b : Bool). cond b (hop x y (climb P j v) (climb P (suc j) v))
       (hop x y (climb P (suc j) v) (climb P j v)))
-      (rise-lowest T v u j h)
+      (stepsUp-lowest T v u j h)
 
   pub has-direction : (us : List Vec) → OnPath P edge u v us → HasHalfPlane us → HasDirection P x y u v
   has-direction us o h =

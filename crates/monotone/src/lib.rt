@@ -13,12 +13,14 @@ ghost use lib.ListN.{length, getD, set};
 ghost use Rattle.laws.specs.Regions.{Only};
 ghost use Rattle.laws.specs.Search.{least};
 ghost use Rattle.table.specs.Table.{allLong, large, checked, farthest};
-ghost use Rattle.table.specs.Work.{Zeroed};
-ghost use Rattle.monotone.specs.Monotone.{beyond, Checked};
+ghost use Rattle.table.specs.Parts.{Zeroed};
+ghost use Rattle.monotone.specs.Monotone.{placeBeyond, Checked};
 ghost use Rattle.monotone.specs.Plane.{cross, dot};
-ghost use Rattle.monotone.specs.Rows.{WithEdges, EdgeTurned, Turned, Climbed, Reached, Visited, Ordered, Coned};
-ghost use Rattle.monotone.specs.Rows.{Coordinate, DrawnPart, Drawn, Found, Judged};
-ghost use Rattle.monotone.specs.Cones.{vec, Small, Near, Moved, partAt, edgeAt, Part, Edges, Alone, Growing};
+ghost use Rattle.monotone.specs.Parts.{WithEdges, EdgeTurned, Turned, Climbed, Reached, ConeKnown};
+ghost use Rattle.monotone.specs.Parts.{ChildrenFirst, Coned};
+ghost use Rattle.monotone.specs.Parts.{NearPlaces, DrawnPart, DrawnEdges, Found, Judged};
+ghost use Rattle.monotone.specs.Cones.{vec, SmallPart, Near, RightMove, partAt, edgeAt, Part, SmallEdges};
+ghost use Rattle.monotone.specs.Cones.{Alone, Growing};
 ghost use Rattle.monotone.specs.Cones.{Grown};
 use table::Limits;
 use table::Validity;
@@ -76,7 +78,7 @@ fn dot_product(a: Vector, b: Vector) -> i64
 // What a cone becomes with the vector u, by the signs of its cross products with the two sides.
 fn step(lo: Vector, hi: Vector, u: Vector) -> Move
     requires { ⌜ Near lo × Near hi × Near u ⌝ }
-    ensures { λ r. ⌜ Moved (vec lo) (vec hi) (vec u) r ⌝ }
+    ensures { λ r. ⌜ RightMove (vec lo) (vec hi) (vec u) r ⌝ }
 {
     let p = cross_product(lo, u);
     let q = cross_product(u, hi);
@@ -107,7 +109,7 @@ fn step(lo: Vector, hi: Vector, u: Vector) -> Move
 // A part of a vector, from the number that stands for it: 2,147,483,648 stands for 0.
 fn part(work: &[u32], i: usize) -> i64
     requires { ⌜ (i < length (now work)) × (1 ≤ getD (now work) i 0) ⌝ }
-    ensures { λ r. ⌜ (r ≡ partAt (now (work .entry)) i) × Small r ⌝ }
+    ensures { λ r. ⌜ (r ≡ partAt (now (work .entry)) i) × SmallPart r ⌝ }
 {
     let number = get(work, i) as i64;
     number - 2147483648
@@ -115,7 +117,7 @@ fn part(work: &[u32], i: usize) -> i64
 
 // The edge of node z.
 fn edge(work: &[u32], n: usize, z: usize) -> Vector
-    requires { ⌜ Edges n (now work) × (0 < z) × (z < n) ⌝ }
+    requires { ⌜ SmallEdges n (now work) × (0 < z) × (z < n) ⌝ }
     ensures { λ r. ⌜ (vec r ≡ edgeAt n (now (work .entry)) z) × Near r ⌝ }
 {
     let across = part(work, n + z);
@@ -177,7 +179,7 @@ fn flip(work: &mut [u32], i: usize)
 
 // Turns the edge of node z round.
 fn turn_edge(work: &mut [u32], n: usize, z: usize)
-    requires { ⌜ Edges n (now work) × (0 < z) × (z < n) ⌝ }
+    requires { ⌜ SmallEdges n (now work) × (0 < z) × (z < n) ⌝ }
     ensures { λ _. ⌜ EdgeTurned n z (now (work .entry)) (now (work .exit)) ⌝ }
 {
     flip(work, n + z);
@@ -199,7 +201,7 @@ fn turn(parent: &[u32], work: &mut [u32], u: usize)
 
 // The cones of the paths from u to itself and its ancestors. The edges on the way are turned round, so that all are
 // walked away from u.
-fn climb(parent: &[u32], work: &mut [u32], u: usize)
+fn cones_up(parent: &[u32], work: &mut [u32], u: usize)
     requires { ⌜ WithEdges (now parent) (now work) × (u < length (now parent)) ⌝ }
     requires { ⌜ Zeroed 0 (length (now parent)) (now work) ⌝ }
     ensures { λ _. ⌜ Climbed (now (parent .entry)) u (now (work .entry)) (now (work .exit)) ⌝ }
@@ -220,7 +222,7 @@ fn climb(parent: &[u32], work: &mut [u32], u: usize)
 // The cone of the path to v, from that of the path to v's parent, where it is not known yet.
 fn visit(parent: &[u32], work: &mut [u32], v: usize)
     requires { ⌜ WithEdges (now parent) (now work) × Reached (now parent) (now work) v ⌝ }
-    ensures { λ _. ⌜ Visited (now (parent .entry)) (now (work .entry)) v (now (work .exit)) ⌝ }
+    ensures { λ _. ⌜ ConeKnown (now (parent .entry)) (now (work .entry)) v (now (work .exit)) ⌝ }
 {
     let n = parent.len();
     let known = get(work, v);
@@ -235,12 +237,13 @@ fn visit(parent: &[u32], work: &mut [u32], v: usize)
 
 // The cones of the paths from u to every node, from the root down.
 fn cones(parent: &[u32], work: &mut [u32], u: usize)
-    requires { ⌜ WithEdges (now parent) (now work) × Ordered (now parent) (now work) × (u < length (now parent)) ⌝ }
+    requires { ⌜ WithEdges (now parent) (now work) × ChildrenFirst (now parent) (now work) × (u < length
+        (now parent)) ⌝ }
     ensures { λ _. ⌜ Coned (now (parent .entry)) u (now (work .entry)) (now (work .exit)) ⌝ }
 {
     let n = parent.len();
     clear(work, 0, n);
-    climb(parent, work, u);
+    cones_up(parent, work, u);
     let mut j = n;
     while 0 < j {
         j -= 1;
@@ -252,8 +255,8 @@ fn cones(parent: &[u32], work: &mut [u32], u: usize)
 
 // Whether every pair has a direction, or the first pair that has none: the first whose path has no open half plane.
 fn pairs(parent: &[u32], work: &mut [u32]) -> Verdict
-    requires { ⌜ WithEdges (now parent) (now work) × Ordered (now parent) (now work) ⌝ }
-    ensures { λ r. ⌜ ((x y : List ℕ) → Drawn (now (parent .entry)) x y (now (work .entry))
+    requires { ⌜ WithEdges (now parent) (now work) × ChildrenFirst (now parent) (now work) ⌝ }
+    ensures { λ r. ⌜ ((x y : List ℕ) → DrawnEdges (now (parent .entry)) x y (now (work .entry))
         → Found (now (parent .entry)) x y r) ⌝ }
 {
     let n = parent.len();
@@ -276,7 +279,7 @@ fn pairs(parent: &[u32], work: &mut [u32]) -> Verdict
 
 // The edges' parts in the coordinate c, from `at` on: c of each node less c of its parent.
 fn offsets(c: &[u32], parent: &[u32], work: &mut [u32], at: usize)
-    requires { ⌜ Coordinate (now parent) (now c) × (at + length (now parent) ≤ length (now work)) ⌝ }
+    requires { ⌜ NearPlaces (now parent) (now c) × (at + length (now parent) ≤ length (now work)) ⌝ }
     ensures { λ _. ⌜ DrawnPart (now (parent .entry)) (now (c .entry)) at (now (work .exit)) ⌝ }
     ensures { λ _. ⌜ Only at (at + length (now (parent .entry))) (now (work .entry)) (now (work .exit)) ⌝ }
 {
@@ -292,9 +295,9 @@ fn offsets(c: &[u32], parent: &[u32], work: &mut [u32], at: usize)
 }
 
 // The smallest node with refusal 15, or n.
-fn too_far(place: u32, x: &[u32], y: &[u32]) -> usize
+fn first_beyond(place: u32, x: &[u32], y: &[u32]) -> usize
     requires { ⌜ length (now y) ≡ length (now x) ⌝ }
-    ensures { λ r. ⌜ r ≡ least (beyond place (now (x .entry)) (now (y .entry))) (length (now (x .entry))) ⌝ }
+    ensures { λ r. ⌜ r ≡ least (placeBeyond place (now (x .entry)) (now (y .entry))) (length (now (x .entry))) ⌝ }
 {
     let n = x.len();
     let most = place as usize;
@@ -351,7 +354,7 @@ fn check_within(
     match validate(limits, parent, rank, long, work) {
         Validity::Refused(number, node) => Verdict::Refused(number, node),
         Validity::Accepted => {
-            let v = too_far(limits.place, x, y);
+            let v = first_beyond(limits.place, x, y);
             if v < n {
                 return Verdict::Refused(limits.far, v as u32);
             }

@@ -22,7 +22,7 @@ use Rattle.treefile.specs.declared.Loaded.{Loaded}
 use Rattle.treefile.specs.TreeFile.{statedNodes, Read}
 use Rattle.text.specs.Text.{sheetOf, Appended}
 use Rattle.text.specs.TextLaws.{appended-is}
-use Rattle.text.specs.Writing.{placesOf, Lines}
+use Rattle.text.specs.Parts.{placesOf, Lines}
 use Rattle.sheetfile.specs.SheetFile.{placesOfTable, sheetText, lotsIn}
 use Rattle.sheetfile.specs.SheetFileLaws.{Opening, opening, parents-long, ranks-long, Taken, accepted-text}
 

@@ -12,7 +12,7 @@ use Rattle.laws.specs.Sums.{sum, sum-zero, sum-more, sum-mono}
 use Rattle.laws.specs.Tests.{by-lt, false-of}
 use Rattle.table.specs.Children.{child-of, child-test, root-no-child, children-total}
 use Rattle.table.specs.Table.{parent, isChild, children}
-use Rattle.table.specs.Work.{Scratch, Zeroed, Tallied, Started}
+use Rattle.table.specs.Parts.{Scratch, Zeroed, Tallied, Started}
 
 ------------------------------------------------------------------------
 -- Zeroing

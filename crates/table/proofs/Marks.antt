@@ -18,7 +18,7 @@ use Rattle.table.specs.Ancestry.{leads-steps}
 use Rattle.table.specs.Children.{children-total}
 use Rattle.table.specs.Table.{parent, climb, adrift}
 use Rattle.table.specs.TableLaws.{adrift-root, adrift-yes, adrift-no}
-use Rattle.table.specs.Work.{Scratch, Zeroed, Started, marked, Marking, Reaching}
+use Rattle.table.specs.Parts.{Scratch, Zeroed, Started, marked, Marking, Reaching}
 use Rattle.table.proofs.FirstSlots.{scratch-kept}
 
 marked-yes : (P W : List ℕ) (v : ℕ) → 0 < getD W (length P + v) 0 → marked P W v ≡ true

@@ -16,7 +16,7 @@ use Rattle.laws.specs.Tests.{both, both-is, same-test, false-of}
 use Rattle.table.specs.Children.{childAt-of, childAt-test, slot, slot-below, slot-once}
 use Rattle.table.specs.Table.{parent, rank, children, isChildAt, badRank}
 use Rattle.table.specs.TableLaws.{bad-root, bad-high, bad-shared, bad-no}
-use Rattle.table.specs.Work.{Scratch, Zeroed, Started, inSlot, Seating, Occupied}
+use Rattle.table.specs.Parts.{Scratch, Zeroed, Started, inSlot, Seating, Occupied}
 use Rattle.table.proofs.FirstSlots.{tally-more, tally-none, scratch-kept}
 
 ------------------------------------------------------------------------

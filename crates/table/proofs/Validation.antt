@@ -20,7 +20,7 @@ use Rattle.table.specs.declared.Validity.{Validity}
 use Rattle.table.specs.declared.Validity.the-variants.{Accepted, Refused}
 use Rattle.table.specs.Table.{parent, rank, strayParent, badRank, adrift, shapeFault, treeFault, tableFault}
 use Rattle.table.specs.TableLaws.{stray-yes}
-use Rattle.table.specs.Work.{Scratch, Zeroed, Started, Occupied, Lengths, Rooted, Structured, Validated}
+use Rattle.table.specs.Parts.{Scratch, Zeroed, Started, Occupied, Lengths, Rooted, Structured, Validated}
 
 validity-of : {f : Option Refusal} {k v : ℕ} → f ≡ refusal k v → Refused k v ≡ validity f
 unfolding validity

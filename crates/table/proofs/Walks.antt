@@ -14,7 +14,7 @@ use Rattle.table.specs.Postorder.{size, start, child-at, first-is, numbe
 use Rattle.table.specs.Postorder.{firstNumber}
 use Rattle.table.specs.Table.{parent, rank, children, childAt, order, postNumber}
 use Rattle.table.specs.TableLaws.{Tree, tree-nodes, tree-ranked}
-use Rattle.table.specs.Work.{Ready, Seated, Leftmost, Next, Visited}
+use Rattle.table.specs.Parts.{Ready, Seated, Leftmost, Next, Visited}
 
 ------------------------------------------------------------------------
 -- First slots as a table of the children

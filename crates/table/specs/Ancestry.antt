@@ -17,7 +17,7 @@ use Rattle.laws.specs.Search.{least}
 use Rattle.laws.specs.SearchLaws.{least-below, least-found, least-is, least-passes}
 use Rattle.laws.specs.Sums.{injective-le}
 use Rattle.laws.specs.Tests.{by-eq, by-lt, differ, false-of}
-use Rattle.table.specs.Table.{parent, rank, climb, leads, under, rise}
+use Rattle.table.specs.Table.{parent, rank, climb, leads, under, stepsUp}
 use Rattle.table.specs.TableLaws.{Tree}
 
 ------------------------------------------------------------------------
@@ -243,81 +243,84 @@ module _ {P R : List ℕ} (tree : Tree P R) where
   ----------------------------------------------------------------------
   -- Lowest common ancestors
 
-  rise-found : (u v : ℕ) → u < length P → v < length P
-      → (rise P u v ≤ depth P u) × (under P (climb P (rise P u v) u) v ≡ true)
-  unfolding rise
-  rise-found u v lu lv =
+  stepsUp-found : (u v : ℕ) → u < length P → v < length P
+      → (stepsUp P u v ≤ depth P u) × (under P (climb P (stepsUp P u v) u) v ≡ true)
+  unfolding stepsUp
+  stepsUp-found u v lu lv =
       least-found (λ k. under P (climb P k u) v) (length P) (depth P u) (depth-below-n u lu)
       (subst (λ (z : ℕ). under P z v ≡ true) (sym (climb-depth u lu)) (under-root v lv))
 
-  pub rise-common : (u v : ℕ) → u < length P → v < length P → under P (climb P (rise P u v) u) v ≡ true
-  rise-common u v lu lv = rise-found u v lu lv .1
+  pub stepsUp-common : (u v : ℕ) → u < length P → v < length P → under P (climb P (stepsUp P u v) u) v ≡ true
+  stepsUp-common u v lu lv = stepsUp-found u v lu lv .1
 
-  pub rise-lowest : (u v i : ℕ) → i < rise P u v → under P (climb P i u) v ≡ false
-  unfolding rise
-  rise-lowest u v i l = least-below (λ k. under P (climb P k u) v) (length P) i l
+  pub stepsUp-lowest : (u v i : ℕ) → i < stepsUp P u v → under P (climb P i u) v ≡ false
+  unfolding stepsUp
+  stepsUp-lowest u v i l = least-below (λ k. under P (climb P k u) v) (length P) i l
 
-  pub rise-least : (u v k : ℕ) → under P (climb P k u) v ≡ true → rise P u v ≤ k
-  rise-least u v k t = by-lt k (rise P u v) (λ l. absurd (differ t (rise-lowest u v k l))) (λ l. l)
+  pub stepsUp-least : (u v k : ℕ) → under P (climb P k u) v ≡ true → stepsUp P u v ≤ k
+  stepsUp-least u v k t = by-lt k (stepsUp P u v) (λ l. absurd (differ t (stepsUp-lowest u v k l))) (λ l. l)
 
-  pub rise-is : (u v r : ℕ) → u < length P → v < length P → under P (climb P r u) v ≡ true
-      → ((i : ℕ) → i < r → under P (climb P i u) v ≡ false) → rise P u v ≡ r
-  rise-is u v r lu lv t before =
-      by-lt (rise P u v) r (λ l. absurd (differ (rise-common u v lu lv) (before (rise P u v) l)))
-      (λ l. omega (arith, rise-least u v r t))
+  pub stepsUp-is : (u v r : ℕ) → u < length P → v < length P → under P (climb P r u) v ≡ true
+      → ((i : ℕ) → i < r → under P (climb P i u) v ≡ false) → stepsUp P u v ≡ r
+  stepsUp-is u v r lu lv t before =
+      by-lt (stepsUp P u v) r (λ l. absurd (differ (stepsUp-common u v lu lv) (before (stepsUp P u v) l)))
+      (λ l. omega (arith, stepsUp-least u v r t))
 
-  pub rise-zero : (u v : ℕ) → u < length P → v < length P → under P u v ≡ true → rise P u v ≡ 0
-  rise-zero u v lu lv t =
-      rise-is u v 0 lu lv (subst (λ (z : ℕ). under P z v ≡ true) (sym (climb-zero P u)) t) (λ i l. absurd (omega arith))
+  pub stepsUp-zero : (u v : ℕ) → u < length P → v < length P → under P u v ≡ true → stepsUp P u v ≡ 0
+  stepsUp-zero u v lu lv t =
+      stepsUp-is u v 0 lu lv (subst (λ (z : ℕ). under P z v ≡ true) (sym (climb-zero P u)) t) (λ i l. absurd
+      (omega arith))
 
-  pub zero-rise : (u v : ℕ) → u < length P → v < length P → rise P u v ≡ 0 → under P u v ≡ true
-  zero-rise u v lu lv e =
-      subst (λ (z : ℕ). under P z v ≡ true) (ap (λ (k : ℕ). climb P k u) e ∙ climb-zero P u) (rise-common u v lu lv)
+  pub zero-stepsUp : (u v : ℕ) → u < length P → v < length P → stepsUp P u v ≡ 0 → under P u v ≡ true
+  zero-stepsUp u v lu lv e =
+      subst (λ (z : ℕ). under P z v ≡ true) (ap (λ (k : ℕ). climb P k u) e ∙ climb-zero P u) (stepsUp-common u v lu lv)
 
-  pub rise-some : (u v : ℕ) → u < length P → v < length P → under P u v ≡ false → (i : ℕ) × (rise P u v ≡ suc i)
-  rise-some u v lu lv f = go (rise P u v) refl
+  pub stepsUp-some : (u v : ℕ) → u < length P → v < length P → under P u v ≡ false → (i : ℕ) × (stepsUp P u v ≡ suc i)
+  stepsUp-some u v lu lv f = go (stepsUp P u v) refl
     where
-      go : (r : ℕ) → rise P u v ≡ r → (i : ℕ) × (rise P u v ≡ suc i)
-      go zero e = absurd (differ (zero-rise u v lu lv e) f)
+      go : (r : ℕ) → stepsUp P u v ≡ r → (i : ℕ) × (stepsUp P u v ≡ suc i)
+      go zero e = absurd (differ (zero-stepsUp u v lu lv e) f)
       go (suc i) e = (i, e)
 
   -- below the lowest common ancestor there is no root
-  pub rise-way : (u v i : ℕ) → v < length P → i < rise P u v → 0 < climb P i u
-  rise-way u v i lv l =
+  pub stepsUp-way : (u v i : ℕ) → v < length P → i < stepsUp P u v → 0 < climb P i u
+  stepsUp-way u v i lv l =
       by-eq (climb P i u) 0
-      (λ e. absurd (differ (subst (λ (z : ℕ). under P z v ≡ true) (sym e) (under-root v lv)) (rise-lowest u v i l)))
+      (λ e. absurd (differ (subst (λ (z : ℕ). under P z v ≡ true) (sym e) (under-root v lv)) (stepsUp-lowest u v i l)))
       (λ ne. omega arith)
 
   -- the ancestor that u's way up comes to is at or above the one that v's way up comes to
-  rise-over : (u v : ℕ) → u < length P → v < length P → under P (climb P (rise P u v) u) (climb P (rise P v u) v) ≡ true
-  rise-over u v lu lv =
-      let way : (k : ℕ) × (k ≤ length P) × (climb P k v ≡ climb P (rise P u v) u) =
-      under-steps P (climb P (rise P u v) u) v (rise-common u v lu lv) in
-      let low : rise P v u ≤ way .0 =
-      rise-least v u (way .0) (subst (λ (z : ℕ). under P z u ≡ true) (sym (way .2)) (under-climb (rise P u v) u lu)) in
-      steps-under P (tree .inside) (climb P (rise P u v) u) (climb P (rise P v u) v) (way .0 - rise P v u)
-      (climb-inside P (tree .inside) (rise P v u) v lv)
-      (climb-onward P (way .0) (rise P v u) v low ∙ way .2)
+  stepsUp-over : (u v : ℕ) → u < length P → v < length P → under P (climb P (stepsUp P u v) u) (climb P
+      (stepsUp P v u) v) ≡ true
+  stepsUp-over u v lu lv =
+      let way : (k : ℕ) × (k ≤ length P) × (climb P k v ≡ climb P (stepsUp P u v) u) =
+      under-steps P (climb P (stepsUp P u v) u) v (stepsUp-common u v lu lv) in
+      let low : stepsUp P v u ≤ way .0 =
+      stepsUp-least v u (way .0) (subst (λ (z : ℕ). under P z u ≡ true) (sym (way .2)) (under-climb
+      (stepsUp P u v) u lu)) in
+      steps-under P (tree .inside) (climb P (stepsUp P u v) u) (climb P (stepsUp P v u) v) (way .0 - stepsUp P v u)
+      (climb-inside P (tree .inside) (stepsUp P v u) v lv)
+      (climb-onward P (way .0) (stepsUp P v u) v low ∙ way .2)
 
   -- the lowest common ancestor is the same from both sides
-  pub rise-meet : (u v : ℕ) → u < length P → v < length P → climb P (rise P u v) u ≡ climb P (rise P v u) v
-  rise-meet u v lu lv =
-      under-antisym (climb P (rise P u v) u) (climb P (rise P v u) v)
-      (climb-inside P (tree .inside) (rise P u v) u lu) (climb-inside P (tree .inside) (rise P v u) v lv)
-      (rise-over u v lu lv) (rise-over v u lv lu)
+  pub stepsUp-meet : (u v : ℕ) → u < length P → v < length P → climb P (stepsUp P u v) u ≡ climb P (stepsUp P v u) v
+  stepsUp-meet u v lu lv =
+      under-antisym (climb P (stepsUp P u v) u) (climb P (stepsUp P v u) v)
+      (climb-inside P (tree .inside) (stepsUp P u v) u lu) (climb-inside P (tree .inside) (stepsUp P v u) v lv)
+      (stepsUp-over u v lu lv) (stepsUp-over v u lv lu)
 
   -- where it is neither of the two, the nodes before it on either way are different children of it
-  pub rise-siblings : (u v i j : ℕ) → u < length P → v < length P → rise P u v ≡ suc i → rise P v u ≡ suc j
+  pub stepsUp-siblings : (u v i j : ℕ) → u < length P → v < length P → stepsUp P u v ≡ suc i → stepsUp P v u ≡ suc j
       → Siblings P (climb P i u) (climb P j v)
-  rise-siblings u v i j lu lv ei ej = record {
-    p-node = rise-way u v i lv (omega arith);
+  stepsUp-siblings u v i j lu lv ei ej = record {
+    p-node = stepsUp-way u v i lv (omega arith);
     p-inside = climb-inside P (tree .inside) i u lu;
-    q-node = rise-way v u j lu (omega arith);
+    q-node = stepsUp-way v u j lu (omega arith);
     q-inside = climb-inside P (tree .inside) j v lv;
-    one-parent = sym (climb-suc P i u) ∙ ap (λ (k : ℕ). climb P k u) (sym ei) ∙ rise-meet u v lu lv
+    one-parent = sym (climb-suc P i u) ∙ ap (λ (k : ℕ). climb P k u) (sym ei) ∙ stepsUp-meet u v lu lv
         ∙ ap (λ (k : ℕ). climb P k v) ej ∙ climb-suc P j v;
     apart = λ e. differ (subst (λ (z : ℕ). under P z v ≡ true) (sym e) (under-climb j v lv))
-        (rise-lowest u v i (omega arith));
+        (stepsUp-lowest u v i (omega arith));
   }
 
   pub siblings-ranks : (p q : ℕ) → Siblings P p q → rank R p ≡ rank R q → ⊥

@@ -7,5 +7,5 @@ pub mod Ancestry
 pub mod Acceptance
 pub mod Postorder
 pub mod Numbering
-pub mod Work
+pub mod Parts
 pub mod Examples

@@ -16,7 +16,7 @@ use Prim.Native.Nat.{ℕ, suc, _*_, _≤_, _<_}
 use lib.IntN.{ℤ, pos, _+ℤ_, _-ℤ_, _*ℤ_}
 use lib.ListN.{getD}
 use lib.Signed.{_<ℤ_}
-use Rattle.table.specs.Table.{climb, rise}
+use Rattle.table.specs.Table.{climb, stepsUp}
 
 ------------------------------------------------------------------------
 -- Rising
@@ -28,8 +28,8 @@ pub record Rises (x y : List ℕ) (d e : ℤ) (a b : ℕ) : Type 0 where
   pub above-0 : pos 0 <ℤ (d *ℤ step x a b +ℤ e *ℤ step y a b)
 
 pub record PathRises (P x y : List ℕ) (d e : ℤ) (u v : ℕ) : Type 0 where
-  pub going-up : (i : ℕ) → i < rise P u v → Rises x y d e (climb P i u) (climb P (suc i) u)
-  pub going-down : (j : ℕ) → j < rise P v u → Rises x y d e (climb P (suc j) v) (climb P j v)
+  pub going-up : (i : ℕ) → i < stepsUp P u v → Rises x y d e (climb P i u) (climb P (suc i) u)
+  pub going-down : (j : ℕ) → j < stepsUp P v u → Rises x y d e (climb P (suc j) v) (climb P j v)
 
 ------------------------------------------------------------------------
 -- Shared points

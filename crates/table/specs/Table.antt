@@ -11,7 +11,7 @@
 --   isChildAt P R p r v      == v is a child of p with rank r
 --   childAt P R p r          == the child of p with rank r
 --   under P a v              == v is in a's subtree: a is v or an ancestor of v
---   rise P u v               == the number of steps from u up to the lowest common ancestor of u and v
+--   stepsUp P u v               == the number of steps from u up to the lowest common ancestor of u and v
 --   postorder P R f v        == v's subtree, the subtrees of the children in rank order, then v; f bounds the depth
 --   order P R                == the whole post-order: the root's subtree
 --   postNumber P R v         == v's place in it, from 1
@@ -63,8 +63,8 @@ unfoldable pub under : List ℕ → ℕ → ℕ → Bool
 under P a v = leb (least (λ k. eqb (climb P k v) a) (suc (length P))) (length P)
 
 -- the first of u and its ancestors that has v in its subtree
-unfoldable pub rise : List ℕ → ℕ → ℕ → ℕ
-rise P u v = least (λ k. under P (climb P k u) v) (length P)
+unfoldable pub stepsUp : List ℕ → ℕ → ℕ → ℕ
+stepsUp P u v = least (λ k. under P (climb P k u) v) (length P)
 
 ------------------------------------------------------------------------
 -- Post-order

@@ -12,10 +12,10 @@ ghost use Rattle.laws.specs.Search.{least};
 ghost use Rattle.table.specs.Acceptance.{validity};
 ghost use Rattle.table.specs.Table.{climb, postNumber, strayParent, badRank, adrift, shapeFault};
 ghost use Rattle.table.specs.Table.{large, checked, printed};
-ghost use Rattle.table.specs.Work.{Scratch, Zeroed, Tallied, Started, Seating, Occupied, marked, Marking};
-ghost use Rattle.table.specs.Work.{Reaching, Lengths, Rooted, Structured, Validated, Ready, Seated};
-ghost use Rattle.table.specs.Work.{Leftmost, Next};
-ghost use Rattle.table.specs.Work.{Visited};
+ghost use Rattle.table.specs.Parts.{Scratch, Zeroed, Tallied, Started, Seating, Occupied, marked, Marking};
+ghost use Rattle.table.specs.Parts.{Reaching, Lengths, Rooted, Structured, Validated, Ready, Seated};
+ghost use Rattle.table.specs.Parts.{Leftmost, Next};
+ghost use Rattle.table.specs.Parts.{Visited};
 ghost use Rattle.table.specs.Numbering.{Numbered, NumberedTree, Numbers};
 
 // What a call accepts: the most nodes and the largest place. `many` and `far` are refusal numbers: of more nodes, and

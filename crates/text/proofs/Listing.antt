@@ -7,7 +7,7 @@ use lib.ListN.{length, getD, take, length-append}
 use lib.Seq.{take-suc, take-all}
 use Rattle.text.specs.Text.{field, Places, lotLine, lotLines, sheetOf, sheetWord, Appended}
 use Rattle.text.specs.TextLaws.{length-field, length-lotLines, appended-none, appended-on, appended-is}
-use Rattle.text.specs.Writing.{lineOf, titleOf, Lines}
+use Rattle.text.specs.Parts.{lineOf, titleOf, Lines}
 
 ------------------------------------------------------------------------
 -- A word

@@ -10,7 +10,7 @@ use Rattle.laws.specs.Tests.{by-lt}
 use Rattle.text.specs.Text.{decimal, Appended}
 use Rattle.text.specs.TextLaws.{decimal-one, decimal-last, length-decimal, appended-none, appended-on}
 use Rattle.text.specs.TextLaws.{appended-is}
-use Rattle.text.specs.Writing.{Power, Unit}
+use Rattle.text.specs.Parts.{Power, Unit}
 
 ------------------------------------------------------------------------
 -- Powers of ten

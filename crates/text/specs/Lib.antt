@@ -1,3 +1,3 @@
 pub mod Text
 pub mod TextLaws
-pub mod Writing
+pub mod Parts

@@ -7,7 +7,7 @@ ghost use mathlib.Core.Path.{_≡_};
 ghost use Prim.Native.Nat.{_+_, _*_, _/_, _%_, _^_, _≤_, _<_};
 ghost use lib.ListN.{length};
 ghost use Rattle.text.specs.Text.{decimal, field, lotLines, sheetOf, refusalOf, Appended};
-ghost use Rattle.text.specs.Writing.{Unit, lineOf, titleOf, placesOf, Lines};
+ghost use Rattle.text.specs.Parts.{Unit, lineOf, titleOf, placesOf, Lines};
 
 // Puts one byte.
 fn put_byte(out: &mut [u8], at: usize, b: u8) -> usize

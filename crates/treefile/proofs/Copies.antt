@@ -8,7 +8,7 @@ use lib.Seq.{ext-getD}
 use Rattle.laws.specs.Regions.{Only, read-set, only-refl, only-set}
 use Rattle.laws.specs.Search.{tabulate}
 use Rattle.laws.specs.SearchLaws.{tabulate-is}
-use Rattle.treefile.specs.Bytes.{Copied}
+use Rattle.treefile.specs.Parts.{Copied}
 
 pub record Filled (f : ℕ → ℕ) (a n : ℕ) (W X : List ℕ) (i : ℕ) : Type 0 where
   pub upto : i ≤ n

@@ -17,8 +17,8 @@ use Rattle.table.specs.declared.Limits.{Limits}
 use Rattle.table.specs.declared.Validity.{Validity}
 use Rattle.table.specs.declared.Validity.the-variants.{Accepted, Refused}
 use Rattle.table.specs.Table.{tableFault}
-use Rattle.table.specs.Work.{Validated}
-use Rattle.treefile.specs.Bytes.{WordPut, Encoded}
+use Rattle.table.specs.Parts.{Validated}
+use Rattle.treefile.specs.Parts.{WordPut, Encoded}
 use Rattle.treefile.specs.declared.Saved.the-variants.{Bytes, Unsaved}
 use Rattle.treefile.specs.FileLaws.{by-four, length-allBytes, byte-at}
 use Rattle.treefile.specs.TreeFile.{bytesOf, allBytes, fileOf, saved, writeTree, Wrote}

@@ -15,8 +15,8 @@ use Rattle.table.specs.declared.Limits.{Limits}
 use Rattle.table.specs.declared.Validity.{Validity}
 use Rattle.table.specs.declared.Validity.the-variants.{Accepted}
 use Rattle.table.specs.Table.{treeFault, tableFault}
-use Rattle.table.specs.Work.{Validated}
-use Rattle.treefile.specs.Bytes.{Copied, Opened, Tabled}
+use Rattle.table.specs.Parts.{Validated}
+use Rattle.treefile.specs.Parts.{Copied, Opened, Tabled}
 use Rattle.treefile.specs.declared.Loaded.the-variants.{Table, Refused}
 use Rattle.treefile.specs.TreeFile.{wordAt, words, fileParents, fileRanks, loaded}
 use Rattle.treefile.proofs.Copies.{restored}

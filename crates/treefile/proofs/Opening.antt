@@ -12,7 +12,7 @@ use Rattle.laws.specs.Refusals.{refusal, some-not-none, orElse-first, orElse-se
 use Rattle.laws.specs.Search.{Refusal, refuse}
 use Rattle.laws.specs.Tests.{both-is}
 use Rattle.table.specs.declared.Limits.{Limits}
-use Rattle.treefile.specs.Bytes.{Opened, Tabled}
+use Rattle.treefile.specs.Parts.{Opened, Tabled}
 use Rattle.treefile.specs.declared.Loaded.{Loaded}
 use Rattle.treefile.specs.declared.Loaded.the-variants.{Refused}
 use Rattle.treefile.specs.TreeFile.{wordAt, statedNodes, openFault, loaded, readTree, Read}

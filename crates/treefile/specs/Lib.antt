@@ -1,3 +1,3 @@
 pub mod TreeFile
 pub mod FileLaws
-pub mod Bytes
+pub mod Parts

@@ -6,7 +6,7 @@ ghost use Prim.Native.Nat.{_+_, _*_, _^_, _≤_, _<_};
 ghost use lib.ListN.{length, getD};
 ghost use Rattle.laws.specs.Regions.{Only};
 ghost use Rattle.table.specs.Table.{large};
-ghost use Rattle.treefile.specs.Bytes.{Copied, Opened, Tabled, WordPut, Encoded};
+ghost use Rattle.treefile.specs.Parts.{Copied, Opened, Tabled, WordPut, Encoded};
 ghost use Rattle.treefile.specs.TreeFile.{wordAt, words, statedOrZero, Read, Wrote};
 
 // What the reader answers: the number of nodes, or a refusal with its number and node.

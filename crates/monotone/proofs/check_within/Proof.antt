@@ -7,7 +7,7 @@ use borrow.Author.Needs.{needs}
 use Rattle.table.specs.declared.Validity.{Validity}
 use Rattle.table.specs.declared.Validity.the-variants.{Accepted}
 use Rattle.table.specs.Table.{allLong}
-use Rattle.table.specs.Work.{Validated}
+use Rattle.table.specs.Parts.{Validated}
 use Rattle.monotone.proofs.Judging.{checked-table, checked-far, checked-found, judged, x-long, y-long, few-nodes}
 use Rattle.monotone.proofs.check_within.Statement.{statement}
 use Rattle.monotone.proofs.check_within.Tie as tie
@@ -40,8 +40,8 @@ module _ (c : tie.After-enum-told) where
   accepted : Valid checked Accepted
   accepted = valid-as checked Accepted (c .enum-told .given .1)
 
-too-far-requires : tie.Need-too-far-requires
-too-far-requires c κs =
+first-beyond-requires : tie.Need-first-beyond-requires
+first-beyond-requires c κs =
     let at = start (checked c) .args in
     y-long (at .x .now) (at .y .now) (same (checked c)) (accepted c)
     ∙ sym (x-long (at .x .now) (at .y .now) (same (checked c)) (accepted c))
@@ -57,7 +57,7 @@ returns : tie.Need-returns
 returns c =
     let told = c .before .before in
     let at = start (checked told) .args in
-    checked-far (at .x .now) (at .y .now) (same (checked told)) (accepted told) (c .before .too-far .ensures)
+    checked-far (at .x .now) (at .y .now) (same (checked told)) (accepted told) (c .before .first-beyond .ensures)
     (search needs) (c .if1 .taken)
 
 judge-requires : tie.Need-judge-requires
@@ -65,7 +65,8 @@ judge-requires c κs =
     let test = c .before in
     let told = test .before .before in
     let at = start (checked told) in
-    judged (at .args .x .now) (at .args .y .now) (same (checked told)) (accepted told) (test .before .too-far .ensures)
+    judged (at .args .x .now) (at .args .y .now) (same (checked told)) (accepted told)
+    (test .before .first-beyond .ensures)
     (test .if1 .left) (at .pre .0) (at .pre .1)
 
 returns-2 : tie.Need-returns-2
@@ -81,13 +82,13 @@ returns-3 c =
     let test = found .before .before in
     let told = test .before .before in
     let at = start (checked told) .args in
-    checked-found (at .x .now) (at .y .now) (same (checked told)) (accepted told) (test .before .too-far .ensures)
+    checked-found (at .x .now) (at .y .now) (same (checked told)) (accepted told) (test .before .first-beyond .ensures)
     (test .if1 .left) (search needs) (found .judge .result) (found .judge .ensures)
 
 pub check-within-spec : {M : Type 1} → statement M
 check-within-spec = tie.close (tie.spec (λ c κs. search needs) (λ c κs. search needs) (λ c. search needs)
     (λ c. search needs)
-    too-far-requires
+    first-beyond-requires
     cast-t17 (λ c. search needs)
     returns
     judge-requires (λ c. search needs)

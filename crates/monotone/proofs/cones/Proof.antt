@@ -3,7 +3,7 @@ use mathlib.Core.List.{List}
 use mathlib.Core.Path.{subst, subst⁻¹, _∙_}
 use Prim.Native.Nat.{ℕ}
 use native.Mathlib.Omega.{arith}
-use Rattle.monotone.specs.Rows.{WithEdges, Reached, Ordered, Visited, Coned}
+use Rattle.monotone.specs.Parts.{WithEdges, Reached, ChildrenFirst, ConeKnown, Coned}
 use Rattle.monotone.proofs.Spreading.{Spreading, spreading-start, spreading-reached, spreading-step, coned}
 use Rattle.monotone.proofs.Spreading.{ordered-kept, edges-stay, edges-away}
 use Rattle.monotone.proofs.cones.Statement.{statement}
@@ -28,31 +28,31 @@ module _ (c : tie.After-clear Inv-loop μ-loop) where
   cleared : WithEdges P (c .clear .last .0)
   cleared = edges-stay (c .clear .ensures .1) (start .pre .0)
 
-climb-requires : tie.Need-climb-requires Inv-loop μ-loop
-climb-requires c κs =
+cones-up-requires : tie.Need-cones-up-requires Inv-loop μ-loop
+cones-up-requires c κs =
     let clear = c .before .before .before in
     ((cleared clear, start clear .pre .2), clear .clear .ensures .0)
 
-module _ (c : tie.After-climb Inv-loop μ-loop) where
+module _ (c : tie.After-cones-up Inv-loop μ-loop) where
   abbrev clear-of : tie.After-clear Inv-loop μ-loop
   clear-of = c .before .before .before .before
 
   abbrev first : tie.Start Inv-loop μ-loop
   first = start clear-of
 
-  climbed : WithEdges (first .args .parent .now) (c .climb .last .1 .0)
-  climbed = edges-away (c .climb .ensures .away) (c .climb .ensures .only .long) (cleared clear-of)
+  climbed : WithEdges (first .args .parent .now) (c .cones-up .last .1 .0)
+  climbed = edges-away (c .cones-up .ensures .away) (c .cones-up .ensures .only .long) (cleared clear-of)
 
-  ordered : Ordered (first .args .parent .now) (c .climb .last .1 .0)
+  ordered : ChildrenFirst (first .args .parent .now) (c .cones-up .last .1 .0)
   ordered =
-      ordered-kept (λ j h. c .climb .ensures .only .above j h ∙ clear-of .clear .ensures .1 .above j (omega arith))
+      ordered-kept (λ j h. c .cones-up .ensures .only .above j h ∙ clear-of .clear .ensures .1 .above j (omega arith))
       (first .pre .1)
 
 loop-holds : tie.Need-loop-holds Inv-loop μ-loop
-loop-holds c = spreading-start (ordered (c .before .before)) (c .before .before .climb .ensures .row)
+loop-holds c = spreading-start (ordered (c .before .before)) (c .before .before .cones-up .ensures .row)
 
 module _ (c : tie.At-loop Inv-loop μ-loop) where
-  abbrev climb-of : tie.After-climb Inv-loop μ-loop
+  abbrev climb-of : tie.After-cones-up Inv-loop μ-loop
   climb-of = c .before .before .before
 
   -- the list of the loop
@@ -81,7 +81,7 @@ loop-again c =
     let start = first (climb-of turn) in
     spreading-step (start .pre .0 .tree) (start .pre .2) (climbed (climb-of turn) .edges) (test .loop-test .taken)
     (turn .loop .inv)
-    (subst (λ (v : ℕ). Visited (start .args .parent .now) (turn .loop .work) v (visited .visit .last .1 .0))
+    (subst (λ (v : ℕ). ConeKnown (start .args .parent .now) (turn .loop .work) v (visited .visit .last .1 .0))
     (node .get .ensures .0) (visited .visit .ensures))
 
 turn-requires : tie.Need-turn-requires Inv-loop μ-loop
@@ -98,7 +98,7 @@ module _ (c : tie.After-turn Inv-loop μ-loop) where
 
   result : Coned (args .args .parent .now) (args .args .u) (args .args .work .now) (c .turn .last .1 .0)
   result =
-      coned (clear-of (climb-of at) .clear .ensures .1) (climb-of at .climb .ensures)
+      coned (clear-of (climb-of at) .clear .ensures .1) (climb-of at .cones-up .ensures)
       (c .before .before .loop-test .left)
       (at .loop .inv) (c .turn .ensures)
 
@@ -107,7 +107,7 @@ returns c = result (c .before .before)
 
 pub cones-spec : {M : Type 1} → statement M
 cones-spec = tie.close (tie.spec Inv-loop μ-loop (λ c κs. omega arith)
-    climb-requires
+    cones-up-requires
     loop-holds (λ c. omega arith) (λ c. omega arith) (λ c. omega arith) (λ c κs. omega arith)
     visit-requires (λ c. omega arith)
     loop-again

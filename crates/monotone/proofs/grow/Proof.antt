@@ -3,7 +3,7 @@ use mathlib.Core.Path.{subst}
 use Prim.Native.Nat.{ℕ, _/_, _%_}
 use borrow.Author.Needs.{needs}
 use Rattle.monotone.specs.Plane.{Vec}
-use Rattle.monotone.specs.Cones.{edgeAt, Moved, Pair, Alone}
+use Rattle.monotone.specs.Cones.{edgeAt, RightMove, ConePair, Alone}
 use Rattle.monotone.proofs.Growth.{grow-shut, grow-first, grow-keep, grow-high, grow-low, grow-never, moved-to}
 use Rattle.monotone.proofs.grow.Statement.{statement}
 use Rattle.monotone.proofs.grow.Tie as tie
@@ -45,10 +45,10 @@ module _ (c : tie.After-step) where
   abbrev cone : ℕ
   cone = start .args .cone
 
-  pair : Pair (start .args .n) cone
+  pair : ConePair (start .args .n) cone
   pair = start .pre .formed .pair (test .if2 .left) (test .before .before .if1 .left)
 
-  moved : Moved (edges (cone / 65536)) (edges (cone % 65536)) (edges (start .args .z)) (c .step .result)
+  moved : RightMove (edges (cone / 65536)) (edges (cone % 65536)) (edges (start .args .z)) (c .step .result)
   moved =
       moved-to (c .before .before .edge2 .ensures .0) (c .before .edge3 .ensures .0) (test .before .edge .ensures .0)
       (c .step .ensures)

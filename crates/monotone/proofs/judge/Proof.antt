@@ -1,6 +1,6 @@
 -- The edges and the order stand in their regions, so the pairs can be gone through.
 use borrow.Author.Needs.{needs}
-use Rattle.monotone.specs.Rows.{WithEdges, Ordered, Drawn}
+use Rattle.monotone.specs.Parts.{WithEdges, ChildrenFirst, DrawnEdges}
 use Rattle.monotone.proofs.Judging.{drawn, with-edges, ordered}
 use Rattle.monotone.proofs.judge.Statement.{statement}
 use Rattle.monotone.proofs.judge.Tie as tie
@@ -21,11 +21,12 @@ module _ (c : tie.After-offsets2) where
       (x-parts .offsets .ensures .1)
       (c .offsets2 .ensures .0) (c .offsets2 .ensures .1)
 
-  order : Ordered (start .args .parent .now) (c .offsets2 .last .1 .1 .0)
+  order : ChildrenFirst (start .args .parent .now) (c .offsets2 .last .1 .1 .0)
   order = ordered (start .pre) (numbers .number .ensures) (x-parts .offsets .ensures .0) (x-parts .offsets .ensures .1)
       (c .offsets2 .ensures .0) (c .offsets2 .ensures .1)
 
-  drawing : Drawn (start .args .parent .now) (start .args .x .now) (start .args .y .now) (c .offsets2 .last .1 .1 .0)
+  drawing : DrawnEdges (start .args .parent .now) (start .args .x .now) (start .args .y .now)
+      (c .offsets2 .last .1 .1 .0)
   drawing = drawn (start .pre) (numbers .number .ensures) (x-parts .offsets .ensures .0) (x-parts .offsets .ensures .1)
       (c .offsets2 .ensures .0) (c .offsets2 .ensures .1)
 

@@ -4,7 +4,7 @@ use Prim.Native.Nat.{_-_, _<_}
 use native.Mathlib.Omega.{arith}
 use lib.ListN.{length}
 use Rattle.laws.specs.Regions.{Only, only-refl, only-trans}
-use Rattle.monotone.specs.Rows.{Found}
+use Rattle.monotone.specs.Parts.{Found}
 use Rattle.monotone.proofs.Spreading.{edges-stay, ordered-kept}
 use Rattle.monotone.proofs.Deciding.{OverRows, OverRow, passed-none, clear-more, passed-row, first-turn}
 use Rattle.monotone.proofs.Deciding.{all-passed}

@@ -5,7 +5,7 @@ use native.Mathlib.Omega.{arith}
 use lib.ListN.{length, getD}
 use borrow.Author.Needs.{needs}
 use Rattle.monotone.specs.Cones.{edgeAt, Formed, Grown}
-use Rattle.monotone.specs.Rows.{known, grown}
+use Rattle.monotone.specs.Parts.{known, grown}
 use Rattle.monotone.proofs.visit.Statement.{statement}
 use Rattle.monotone.proofs.visit.Tie as tie
 

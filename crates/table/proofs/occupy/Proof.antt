@@ -3,7 +3,7 @@ use Prim.Native.Nat.{_+_, _*_, _-_, _≤_}
 use native.Mathlib.Omega.{arith}
 use lib.ListN.{length}
 use Rattle.laws.specs.Regions.{Only, only-refl, only-trans}
-use Rattle.table.specs.Work.{Seating}
+use Rattle.table.specs.Parts.{Seating}
 use Rattle.table.proofs.Seats.{seating-start, seating-end}
 use Rattle.table.proofs.occupy.Statement.{statement}
 use Rattle.table.proofs.occupy.Tie as tie

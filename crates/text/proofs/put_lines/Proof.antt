@@ -2,7 +2,7 @@
 use Prim.Native.Nat.{_-_}
 use native.Mathlib.Omega.{arith}
 use lib.ListN.{length}
-use Rattle.text.specs.Writing.{placesOf}
+use Rattle.text.specs.Parts.{placesOf}
 use Rattle.text.proofs.Listing.{Listing, listing-start, listing-step, listing-end, listing-room}
 use Rattle.text.proofs.put_lines.Statement.{statement}
 use Rattle.text.proofs.put_lines.Tie as tie

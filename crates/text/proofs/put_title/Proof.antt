@@ -1,6 +1,6 @@
 -- The word, then the number.
 use Rattle.text.specs.TextLaws.{appended-on}
-use Rattle.text.specs.Writing.{titleOf}
+use Rattle.text.specs.Parts.{titleOf}
 use borrow.Author.Needs.{needs}
 use Rattle.text.proofs.put_title.Statement.{statement}
 use Rattle.text.proofs.put_title.Tie as tie

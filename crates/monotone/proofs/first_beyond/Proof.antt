@@ -6,13 +6,13 @@ use native.Mathlib.Omega.{arith}
 use lib.ListN.{length}
 use borrow.Author.Count.{below-more, below-none}
 use Rattle.laws.specs.SearchLaws.{least-is}
-use Rattle.monotone.specs.Monotone.{beyond}
+use Rattle.monotone.specs.Monotone.{placeBeyond}
 use Rattle.monotone.proofs.Places.{beyond-across, beyond-up, within}
-use Rattle.monotone.proofs.too_far.Statement.{statement}
-use Rattle.monotone.proofs.too_far.Tie as tie
+use Rattle.monotone.proofs.first_beyond.Statement.{statement}
+use Rattle.monotone.proofs.first_beyond.Tie as tie
 
 abbrev Inv-loop : tie.InvT-loop
-Inv-loop place x y n most v₀ v = (v ≤ length x) × ((k : ℕ) → k < v → beyond place x y k ≡ false)
+Inv-loop place x y n most v₀ v = (v ≤ length x) × ((k : ℕ) → k < v → placeBeyond place x y k ≡ false)
 
 abbrev μ-loop : tie.MeasureT-loop
 μ-loop place x y n most v₀ v = length x - v
@@ -41,6 +41,6 @@ loop-again c =
 returns-3 : tie.Need-returns-3 Inv-loop μ-loop
 returns-3 c = least-is _ _ _ (omega arith) (λ k l. c .before .loop .inv .1 k (omega arith)) (λ l. absurd (omega arith))
 
-pub too-far-spec : {M : Type 1} → statement M
-too-far-spec = tie.close (tie.spec Inv-loop μ-loop loop-holds (λ c κs. omega arith) returns (λ c κs. omega arith)
+pub first-beyond-spec : {M : Type 1} → statement M
+first-beyond-spec = tie.close (tie.spec Inv-loop μ-loop loop-holds (λ c κs. omega arith) returns (λ c κs. omega arith)
     returns-2 (λ c. omega arith) (λ c. omega arith) loop-again returns-3)

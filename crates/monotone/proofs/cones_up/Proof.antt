@@ -6,12 +6,12 @@ use native.Mathlib.Omega.{arith}
 use lib.ListN.{length, set}
 use Rattle.laws.specs.Regions.{Only, only-store}
 use Rattle.table.specs.Ancestry.{depth, depth-parent}
-use Rattle.monotone.specs.Cones.{Edges}
+use Rattle.monotone.specs.Cones.{SmallEdges}
 use Rattle.monotone.proofs.Turning.{turning-edges}
 use Rattle.monotone.proofs.Climbing.{Climbing, climbing-start, climbing-turned, climbing-step, climbing-end}
 use Rattle.monotone.proofs.Climbing.{edges-kept}
-use Rattle.monotone.proofs.climb.Statement.{statement}
-use Rattle.monotone.proofs.climb.Tie as tie
+use Rattle.monotone.proofs.cones_up.Statement.{statement}
+use Rattle.monotone.proofs.cones_up.Tie as tie
 
 abbrev Inv-loop : tie.InvT-loop
 Inv-loop parent work₀ u n cone₀ z₀ work cone z = Climbing parent u z work₀ work cone
@@ -45,10 +45,10 @@ module _ (c : tie.At-loop Inv-loop μ-loop) where
   first-only : Only 0 (length (start .args .parent .now)) (start .args .work .now) first
   first-only = only-store (start .args .u) 1 (omega arith) (start .pre .0 .1) (stored .put .ensures)
 
-  first-edges : Edges (length (start .args .parent .now)) first
+  first-edges : SmallEdges (length (start .args .parent .now)) first
   first-edges = edges-kept first-only (start .pre .0 .0 .edges)
 
-  here-edges : Edges (length (start .args .parent .now)) (c .loop .work)
+  here-edges : SmallEdges (length (start .args .parent .now)) (c .loop .work)
   here-edges = turning-edges (c .loop .inv .turning) (c .loop .inv .only .long) first-edges
 
 turn-edge-requires : tie.Need-turn-edge-requires Inv-loop μ-loop
@@ -72,7 +72,7 @@ module _ (c : tie.After-turn-edge Inv-loop μ-loop) where
       let inside = start at .pre .0 .0 .tree .inside (at .loop .z) (at .loop .inv .turning .inside) in
       omega arith
 
-  next-edges : Edges (length (start at .args .parent .now)) (c .turn-edge .last .0)
+  next-edges : SmallEdges (length (start at .args .parent .now)) (c .turn-edge .last .0)
   next-edges =
       turning-edges (climbing-turned (start at .pre .0 .0 .tree) (start at .pre .0 .1) some (at .loop .inv)
       (c .turn-edge .ensures))
@@ -117,6 +117,6 @@ returns c =
     let at = c .before in
     climbing-end (start at .pre .0 .0 .tree) (first-only at) (c .loop-test .left) (at .loop .inv)
 
-pub climb-spec : {M : Type 1} → statement M
-climb-spec = tie.close (tie.spec Inv-loop μ-loop (λ c κs. omega arith) loop-holds (λ c κs. omega arith)
+pub cones-up-spec : {M : Type 1} → statement M
+cones-up-spec = tie.close (tie.spec Inv-loop μ-loop (λ c κs. omega arith) loop-holds (λ c κs. omega arith)
     turn-edge-requires grow-requires put-requires-2 loop-less loop-again (λ c. omega arith) returns)

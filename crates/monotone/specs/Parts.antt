@@ -10,13 +10,13 @@
 --   Told P edge u W     == every known cone is that of the path from u
 --   Row P edge u W      == so it is, and those of u and its ancestors are known
 --   Reached P W v       == v's cone is known, or its parent's is
---   Visited P W v X     == X is W with v's cone known, from its parent's
---   Ordered P W         == the last region is an order in which children come before their parents
+--   ConeKnown P W v X     == X is W with v's cone known, from its parent's
+--   ChildrenFirst P W         == the last region is an order in which children come before their parents
 --   Climbed P u W X     == X is W with its edges walked away from u, and the cones of u and its ancestors
 --   Coned P u W X       == X is W with every cone
---   Coordinate P c      == c is a coordinate of the nodes, within 2,147,483,647
+--   NearPlaces P c      == c is a coordinate of the nodes, within 2,147,483,647
 --   DrawnPart P c at W  == the numbers at `at` are the edges' parts in the coordinate c
---   Drawn P x y W       == the edges are those of a drawing, walked down
+--   DrawnEdges P x y W       == the edges are those of a drawing, walked down
 --   Found P x y r       == r says whether every pair has a direction, or the first that has none
 --   Judged P R x y W    == what the refusals leave
 use mathlib.Core.Bool.{true, false}
@@ -27,21 +27,21 @@ use lib.ListN.{length, getD, set}
 use Rattle.laws.specs.Regions.{Only}
 use Rattle.table.specs.Table.{parent, under}
 use Rattle.table.specs.TableLaws.{Tree}
-use Rattle.table.specs.Work.{Ready}
+use Rattle.table.specs.Parts.{Ready}
 use Rattle.monotone.specs.declared.Verdict.{Verdict}
 use Rattle.monotone.specs.declared.Verdict.the-variants.{Monotone, Turns, Refused}
 use Rattle.monotone.specs.Monotone.{AllDirected, FirstTurn}
 use Rattle.monotone.specs.Plane.{Vec}
 use Rattle.monotone.specs.PathEdges.{OnPath}
-use Rattle.monotone.specs.Cones.{edgeAt, Edges, Holds, any, Formed, Grown}
+use Rattle.monotone.specs.Cones.{edgeAt, SmallEdges, Holds, any, Formed, Grown}
 
 pub record WithEdges (P W : List ℕ) : Type 0 where
   pub ranks : List ℕ
   pub tree : Tree P ranks
-  pub edges : Edges (length P) W
+  pub edges : SmallEdges (length P) W
 
 ------------------------------------------------------------------------
--- Edges walked away from u
+-- SmallEdges walked away from u
 
 pub record EdgeTurned (n z : ℕ) (W X : List ℕ) : Type 0 where
   pub across : getD X (n + z) 0 + getD W (n + z) 0 ≡ 4294967296
@@ -81,12 +81,12 @@ pub record Reached (P W : List ℕ) (v : ℕ) : Type 0 where
   pub some : getD W v 0 ≡ 0 → 0 < v
   pub formed : getD W v 0 ≡ 0 → Formed (length P) (getD W (parent P v) 0)
 
-pub data Visited (P W : List ℕ) (v : ℕ) (X : List ℕ) : Type 0 where
-  known : (getD W v 0 ≡ 0 → ⊥) → X ≡ W → Visited P W v X
+pub data ConeKnown (P W : List ℕ) (v : ℕ) (X : List ℕ) : Type 0 where
+  known : (getD W v 0 ≡ 0 → ⊥) → X ≡ W → ConeKnown P W v X
   grown : (r : ℕ) → getD W v 0 ≡ 0 → Grown (length P) (edgeAt (length P) W) (getD W (parent P v) 0) v r → X ≡ set W v r
-      → Visited P W v X
+      → ConeKnown P W v X
 
-pub record Ordered (P W : List ℕ) : Type 0 where
+pub record ChildrenFirst (P W : List ℕ) : Type 0 where
   pub number : ℕ → ℕ
   pub inside : (j : ℕ) → j < length P → getD W (3 * length P + j) 0 < length P
   pub place : (j : ℕ) → j < length P → number (getD W (3 * length P + j) 0) ≡ j + 1
@@ -110,7 +110,7 @@ pub record Coned (P : List ℕ) (u : ℕ) (W X : List ℕ) : Type 0 where
 ------------------------------------------------------------------------
 -- Drawings
 
-pub record Coordinate (P c : List ℕ) : Type 0 where
+pub record NearPlaces (P c : List ℕ) : Type 0 where
   pub inside : (v : ℕ) → v < length P → parent P v < length P
   pub long : length c ≡ length P
   pub within : (v : ℕ) → v < length P → getD c v 0 ≤ 2147483647
@@ -118,7 +118,7 @@ pub record Coordinate (P c : List ℕ) : Type 0 where
 pub record DrawnPart (P c : List ℕ) (at : ℕ) (W : List ℕ) : Type 0 where
   pub drawn : (z : ℕ) → z < length P → getD W (at + z) 0 + getD c (parent P z) 0 ≡ getD c z 0 + 2147483648
 
-pub record Drawn (P x y W : List ℕ) : Type 0 where
+pub record DrawnEdges (P x y W : List ℕ) : Type 0 where
   pub across : DrawnPart P x (length P) W
   pub up : DrawnPart P y (2 * length P) W
 
@@ -131,5 +131,5 @@ Found P x y (Refused k v) = ⊥
 pub record Judged (P R x y W : List ℕ) : Type 0 where
   pub ready : Ready P R W
   pub few : length P ≤ 65536
-  pub across : Coordinate P x
-  pub up : Coordinate P y
+  pub across : NearPlaces P x
+  pub up : NearPlaces P y
