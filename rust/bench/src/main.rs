@@ -170,11 +170,11 @@ fn pair(
 struct Table {
     /// the ratio to the C version, by medians or by the fastest runs, whichever is smaller
     ratios: Vec<(f64, String)>,
-    /// the proved call's median, under each rule
-    medians: Vec<Median>,
+    /// the proved call's fastest run, under each rule
+    fastest: Vec<Fastest>,
 }
 
-struct Median {
+struct Fastest {
     call: &'static str,
     shape: &'static str,
     n: usize,
@@ -193,22 +193,23 @@ impl Table {
 
     /// A line of a call that is made under both rules.
     fn ruled(&mut self, call: &'static str, balanced: bool, shape: &'static str, n: usize, both: [(f64, f64); 2]) {
-        self.medians.push(Median { call, shape, n, balanced, took: both[0].0 });
+        self.fastest.push(Fastest { call, shape, n, balanced, took: both[1].0 });
         self.line(call, RULES[usize::from(balanced)].0, shape, n, both);
     }
 
-    /// How much more a balanced sheet costs than a steep one of the same tree, for each size.
+    /// How much more a balanced sheet costs than a steep one of the same tree, for each size. By the fastest runs: the two
+    /// rules are not timed in turn.
     fn balanced_over_steep(&self, n: usize) {
-        let of = |wanted: &Median| {
+        let of = |wanted: &Fastest| {
             let steep = self
-                .medians
+                .fastest
                 .iter()
                 .find(|m| (m.call, m.shape, m.n, m.balanced) == (wanted.call, wanted.shape, wanted.n, false));
             wanted.took / steep.expect("both rules are timed").took
         };
-        println!("\nbalanced over steep, {n} lots, by medians:");
+        println!("\nbalanced over steep, {n} lots, by the fastest runs:");
         for call in ["layout", "lengthen", "shorten", "direction"] {
-            let ratios: Vec<_> = self.medians.iter().filter(|m| m.balanced && m.call == call && m.n == n).collect();
+            let ratios: Vec<_> = self.fastest.iter().filter(|m| m.balanced && m.call == call && m.n == n).collect();
             let shown: Vec<_> = ratios.iter().map(|m| format!("{} {:.2}", m.shape, of(m))).collect();
             println!("    {call}: {}", shown.join(", "));
         }
