@@ -1,10 +1,10 @@
 -- What the inner functions of the direction call require and give.
 --
---   LargeTree P R W   == an accepted table with its post numbers in the work list W
+--   LargeTree P R W     == an accepted table with its post numbers in the work list W
 --   TwoNodes P u v      == u and v are nodes
---   Apart P u v     == and v is not in u's subtree
---   TwoEdges P u v     == u and v are nodes, and neither is the root: each has an edge
---   SmallSlope s         == the parts of the slope s are below the largest number of nodes
+--   Apart P u v         == and v is not in u's subtree
+--   TwoEdges P u v      == u and v are nodes, and neither is the root: each has an edge
+--   SmallSlope s        == the parts of the slope s are below the largest number of nodes
 --   PairAnswered .. r   == r is the answer for an accepted table
 use mathlib.Core.Bool.{false}
 use mathlib.Core.List.{List}

@@ -2,7 +2,7 @@
 -- follows.
 --
 --   LimitsFit L   == fresh drawings fit the limits L, which are within those of direction and of the check
---   demand-3    == the claim at the large limits
+--   demand-3      == the claim at the large limits
 use mathlib.Core.Bool.{Bool, true, false, cond}
 use mathlib.Core.List.{List, [], _∷_}
 use mathlib.Core.Logic.{⊎-elim, _≢_, _↔_}

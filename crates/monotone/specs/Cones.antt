@@ -2,14 +2,14 @@
 -- its edge, and the post-order. What the contracts of the inner functions cite.
 --
 --   vec u                 == a vector of the code as a vector of the plane
---   SmallPart z               == a difference of two places of 0 to 2,147,483,647
+--   SmallPart z           == a difference of two places of 0 to 2,147,483,647
 --   Near u                == both parts of u are small
 --   After m lo hi u us    == what is left of a cone where a move says m
---   RightMove lo hi u m       == a move is right
+--   RightMove lo hi u m   == a move is right
 --   partAt W i            == the number at i as a part of a vector; it is stored with 2,147,483,648 added
 --   edgeAt n W z          == the vector of the edge of node z
---   SmallEdges n W             == the nodes from 1 on have edges with small parts
---   ConePair n k              == k is a cone of two edges: the one clockwise of the other times 65,536, and that other
+--   SmallEdges n W        == the nodes from 1 on have edges with small parts
+--   ConePair n k          == k is a cone of two edges: the one clockwise of the other times 65,536, and that other
 --   Holds n side edge ..  == k stands for the vectors us: 1 for none, 2 where no half plane holds them, or the pair of
 --                            their cone, whose two edges pass the test `side`
 --   any                   == every edge may be a side

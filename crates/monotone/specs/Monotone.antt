@@ -1,7 +1,7 @@
 -- Monotone drawings (document 01, "Check"; refusals 14 and 15).
 --
 --   HasDirection P x y u v    == some whole numbers d and e, negative ones allowed, make every edge of the path rise
---   placeBeyond place x y v        == refusal 15: x or y of v is above the largest place
+--   placeBeyond place x y v   == refusal 15: x or y of v is above the largest place
 --   checkFault L ..           == refusals 1, 14, 3 to 7, 15 at the limits L
 --   AllDirected P x y         == every pair has a direction. Of pairs the smaller node is first
 --   FirstTurn P x y u v       == (u, v) is the first pair that has none

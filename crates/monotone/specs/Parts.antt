@@ -1,7 +1,7 @@
 -- The work list while the paths from one node u are followed: each node's cone is that of its path from u, and 0 while
 -- that path is not known. What the contracts of the loops cite.
 --
---   WithEdges P W           == P is a tree, and W has its edges
+--   WithEdges P W       == P is a tree, and W has its edges
 --   EdgeTurned n z W X  == X is W with the edge of z turned round
 --   TurnedPart P u ..   == the numbers at `at` with those of the edges from u to the root turned round
 --   Away P u W X        == the edges of X are those of W, with those from u to the root turned round
@@ -10,13 +10,13 @@
 --   Told P edge u W     == every known cone is that of the path from u
 --   Row P edge u W      == so it is, and those of u and its ancestors are known
 --   Reached P W v       == v's cone is known, or its parent's is
---   ConeKnown P W v X     == X is W with v's cone known, from its parent's
---   ChildrenFirst P W         == the last region is an order in which children come before their parents
+--   ConeKnown P W v X   == X is W with v's cone known, from its parent's
+--   ChildrenFirst P W   == the last region is an order in which children come before their parents
 --   Climbed P u W X     == X is W with its edges walked away from u, and the cones of u and its ancestors
 --   Coned P u W X       == X is W with every cone
 --   NearPlaces P c      == c is a coordinate of the nodes, within 2,147,483,647
 --   DrawnPart P c at W  == the numbers at `at` are the edges' parts in the coordinate c
---   DrawnEdges P x y W       == the edges are those of a drawing, walked down
+--   DrawnEdges P x y W  == the edges are those of a drawing, walked down
 --   Found P x y r       == r says whether every pair has a direction, or the first that has none
 --   Judged P R x y W    == what the refusals leave
 use mathlib.Core.Bool.{true, false}

@@ -11,7 +11,7 @@
 --   isChildAt P R p r v      == v is a child of p with rank r
 --   childAt P R p r          == the child of p with rank r
 --   under P a v              == v is in a's subtree: a is v or an ancestor of v
---   stepsUp P u v               == the number of steps from u up to the lowest common ancestor of u and v
+--   stepsUp P u v            == the number of steps from u up to the lowest common ancestor of u and v
 --   postorder P R f v        == v's subtree, the subtrees of the children in rank order, then v; f bounds the depth
 --   order P R                == the whole post-order: the root's subtree
 --   postNumber P R v         == v's place in it, from 1
