@@ -1,6 +1,7 @@
-//! Times each call of the proved library beside the plain C version, in one run, and prints medians and ratios.
+//! Times each call of the proved library beside the plain C version, and under both rules, in turn, and prints medians
+//! and ratios.
 //!
-//!     cargo run --release -p bench [-- SAMPLES]
+//!     cargo run --release -p bench [-- ROUNDS]
 
 /// The thread's own time in microseconds, which other programs on the machine do not count in.
 fn now() -> f64 {
@@ -31,42 +32,46 @@ mod plain_c {
     );
 }
 
-/// One library's calls, on the lists of `Lists`.
+/// A call on lists, under the balanced rule or the steep one.
+type Call = fn(&mut Lists, bool);
+
+/// One library's calls, on the lists of `Lists`. Tree files have no rule.
 macro_rules! on_lists {
     ($module:ident, $calls:path) => {
         mod $module {
             use super::Lists;
-            use lineage::raw;
             use $calls as calls;
 
-            pub fn layout(l: &mut Lists, balanced: bool) {
-                let s = raw::Lists { times: &mut l.times, x: &mut l.x, y: &mut l.y };
-                assert!(calls::layout(balanced, &l.parent, &l.rank, s, &mut l.work, &mut l.reply));
+            pub fn layout(l: &mut Lists, b: bool) {
+                let s = l.sheets[usize::from(b)].lent();
+                assert!(calls::layout(b, &l.parent, &l.rank, s, &mut l.work, &mut l.reply));
             }
 
-            pub fn lengthen(l: &mut Lists, balanced: bool, lot: u32) {
-                let s = raw::Lists { times: &mut l.times, x: &mut l.x, y: &mut l.y };
-                assert!(calls::lengthen(balanced, &l.parent, &l.rank, s, &mut l.work, lot, 1, &mut l.reply));
+            pub fn lengthen(l: &mut Lists, b: bool) {
+                let s = l.sheets[usize::from(b)].lent();
+                assert!(calls::lengthen(b, &l.parent, &l.rank, s, &mut l.work, l.lot, 1, &mut l.reply));
             }
 
-            pub fn shorten(l: &mut Lists, balanced: bool, lot: u32) {
-                let s = raw::Lists { times: &mut l.times, x: &mut l.x, y: &mut l.y };
-                assert!(calls::shorten(balanced, &l.parent, &l.rank, s, &mut l.work, lot, 1, &mut l.reply));
+            pub fn shorten(l: &mut Lists, b: bool) {
+                let s = l.sheets[usize::from(b)].lent();
+                assert!(calls::shorten(b, &l.parent, &l.rank, s, &mut l.work, l.lot, 1, &mut l.reply));
             }
 
-            pub fn direction(l: &mut Lists, balanced: bool, from: u32, to: u32) {
-                assert!(calls::direction(balanced, &l.parent, &l.rank, &mut l.work, from, to, &mut l.reply));
+            pub fn direction(l: &mut Lists, b: bool) {
+                let n = l.lots() as u32;
+                assert!(calls::direction(b, &l.parent, &l.rank, &mut l.work, n - 1, n / 2, &mut l.reply));
             }
 
-            pub fn check(l: &mut Lists) {
-                assert!(calls::check(&l.parent, &l.rank, &l.x, &l.y, &mut l.work, &mut l.reply));
+            pub fn check(l: &mut Lists, b: bool) {
+                let s = &l.sheets[usize::from(b)];
+                assert!(calls::check(&l.parent, &l.rank, &s.x, &s.y, &mut l.work, &mut l.reply));
             }
 
-            pub fn read_tree(l: &mut Lists) {
+            pub fn read_tree(l: &mut Lists, _: bool) {
                 assert!(calls::read_tree(&l.bytes, &mut l.parent, &mut l.rank, &mut l.work, &mut l.reply));
             }
 
-            pub fn write_tree(l: &mut Lists) {
+            pub fn write_tree(l: &mut Lists, _: bool) {
                 assert!(calls::write_tree(&l.parent, &l.rank, &mut l.bytes, &mut l.work, &mut l.reply));
             }
         }
@@ -76,21 +81,53 @@ macro_rules! on_lists {
 on_lists!(proved, lineage::raw);
 on_lists!(plain, super::plain_c);
 
-/// The lists that the calls work on.
+/// The lists that the calls work on: a table with a sheet under each rule, steep first, and the lot that is stretched.
 struct Lists {
     parent: Vec<u32>,
     rank: Vec<u32>,
-    times: Vec<u32>,
-    x: Vec<u32>,
-    y: Vec<u32>,
+    sheets: [Sheet; 2],
     work: Vec<u32>,
     bytes: Vec<u8>,
     reply: [i64; 3],
+    lot: u32,
+}
+
+#[derive(Clone)]
+struct Sheet {
+    times: Vec<u32>,
+    x: Vec<u32>,
+    y: Vec<u32>,
 }
 
 impl Lists {
     fn lots(&self) -> usize {
         self.parent.len()
+    }
+
+    /// Brings the lists into the processor's caches, so that no call is the first to read them.
+    fn read(&self) {
+        let [steep, balanced] = &self.sheets;
+        for list in
+            [&self.parent, &self.rank, &steep.times, &steep.x, &steep.y, &balanced.times, &balanced.x, &balanced.y]
+        {
+            std::hint::black_box(list.iter().fold(0, |a, b| a ^ b));
+        }
+    }
+}
+
+impl Sheet {
+    fn of(n: usize) -> Sheet {
+        Sheet { times: vec![0; n], x: vec![0; n], y: vec![0; n] }
+    }
+
+    fn lent(&mut self) -> lineage::raw::Lists<'_> {
+        lineage::raw::Lists { times: &mut self.times, x: &mut self.x, y: &mut self.y }
+    }
+
+    fn restore(&mut self, kept: &Sheet) {
+        self.times.copy_from_slice(&kept.times);
+        self.x.copy_from_slice(&kept.x);
+        self.y.copy_from_slice(&kept.y);
     }
 }
 
@@ -98,7 +135,7 @@ impl Lists {
 /// children too.
 const SHAPES: [&str; 5] = ["chain", "star", "random", "shuffled", "binary"];
 
-/// The same numbers in every run.
+/// The same numbers in every run, for each seed.
 struct Numbers(u64);
 
 impl Numbers {
@@ -117,8 +154,8 @@ fn shuffled(n: usize, numbers: &mut Numbers) -> Vec<usize> {
     order
 }
 
-fn lists(shape: &str, n: usize) -> Lists {
-    let mut numbers = Numbers(12345);
+fn lists(shape: &str, n: usize, seed: u64) -> Lists {
+    let mut numbers = Numbers(seed);
     let name = if shape == "shuffled" { shuffled(n, &mut numbers) } else { (0..n).collect() };
     let (mut parent, mut rank, mut count) = (vec![0u32; n], vec![0u32; n], vec![0u32; n]);
     for v in 1..n {
@@ -132,173 +169,201 @@ fn lists(shape: &str, n: usize) -> Lists {
         rank[name[v]] = count[p];
         count[p] += 1;
     }
-    let (times, x, y) = (vec![0; n], vec![0; n], vec![0; n]);
-    Lists { parent, rank, times, x, y, work: vec![0; 4 * n], bytes: vec![0; 4 + 8 * n], reply: [0; 3] }
+    let sheets = [Sheet::of(n), Sheet::of(n)];
+    Lists { parent, rank, sheets, work: vec![0; 4 * n], bytes: vec![0; 4 + 8 * n], reply: [0; 3], lot: 1 }
 }
 
-/// The medians and the least of the times, in microseconds, of two calls that are made in turn; `undo` is made between
-/// and not timed.
-fn pair(
-    samples: usize,
-    l: &mut Lists,
-    first: &dyn Fn(&mut Lists),
-    second: &dyn Fn(&mut Lists),
-    undo: &dyn Fn(&mut Lists),
-) -> [(f64, f64); 2] {
-    let (mut a, mut b) = (Vec::new(), Vec::new());
-    let mut replies = Vec::new();
-    for i in 0..2 * samples + 4 {
-        let (call, times) = if i % 2 == 0 { (first, &mut a) } else { (second, &mut b) };
-        let start = now();
-        call(l);
-        let took = now() - start;
-        replies.push(l.reply);
-        undo(l);
-        if i >= 4 {
-            times.push(took);
+/// Trees of one shape, laid out under both rules. Those numbered at random differ, so that a processor which learns a
+/// small tree's branches by heart does not make one version of a call look faster.
+fn trees(shape: &str, n: usize, count: u64) -> Vec<Lists> {
+    let mut trees: Vec<Lists> = (1..=count).map(|seed| lists(shape, n, seed)).collect();
+    for l in &mut trees {
+        BOTH.iter().for_each(|&b| plain::layout(l, b));
+        choose_lot(l);
+    }
+    trees
+}
+
+fn median(mut numbers: Vec<f64>) -> f64 {
+    numbers.sort_by(f64::total_cmp);
+    numbers[numbers.len() / 2]
+}
+
+/// The microseconds that a call took, round by round.
+#[derive(Clone, Default)]
+struct Took(Vec<f64>);
+
+impl Took {
+    fn median(&self) -> f64 {
+        median(self.0.clone())
+    }
+
+    fn least(&self) -> f64 {
+        self.0.iter().copied().fold(f64::INFINITY, f64::min)
+    }
+
+    /// How many times as long as the other: the median of the rounds' ratios, which a machine that slows down for some
+    /// rounds does not change, and the ratio of the fastest.
+    fn over(&self, other: &Took) -> (f64, f64) {
+        let ratios = self.0.iter().zip(&other.0).map(|(a, b)| a / b).collect();
+        (median(ratios), self.least() / other.least())
+    }
+}
+
+/// Makes a call by both libraries and under each of the rules in turn, round after round, each time on the same sheet.
+/// A round's calls are made on one tree, but for the second rule's, which are made on the one half way round: so what
+/// the processor has learnt of a tree is equally old for each. What the proved call and the C version took, for each
+/// rule.
+fn in_turn(rounds: usize, trees: &mut [Lists], rules: &[bool], calls: [Call; 2]) -> Vec<[Took; 2]> {
+    let count = trees.len();
+    let kept: Vec<[Sheet; 2]> = trees.iter().map(|l| l.sheets.clone()).collect();
+    let mut took = vec![<[Took; 2]>::default(); rules.len()];
+    for round in 0..count + rounds {
+        let mut replies = vec![None; rules.len()];
+        for (library, call) in calls.iter().enumerate() {
+            for (i, &b) in rules.iter().enumerate() {
+                let tree = (round + i * count / 2) % count;
+                let l = &mut trees[tree];
+                l.read();
+                let start = now();
+                call(l, b);
+                let time = now() - start;
+                let reply = *replies[i].get_or_insert(l.reply);
+                assert_eq!(reply, l.reply, "the two differ");
+                assert_ne!(reply[0], 0, "refused: {reply:?}");
+                l.sheets[usize::from(b)].restore(&kept[tree][usize::from(b)]);
+                if round >= count {
+                    took[i][library].0.push(time);
+                }
+            }
         }
     }
-    assert!(replies.iter().all(|r| *r == replies[0]), "the two differ: {replies:?}");
-    assert!(replies[0][0] != 0, "refused: {:?}", replies[0]);
-    a.sort_by(f64::total_cmp);
-    b.sort_by(f64::total_cmp);
-    [(a[a.len() / 2], b[b.len() / 2]), (a[0], b[0])]
+    took
 }
 
-/// The lines of the table, and what is said of them at the end.
+const RULES: [&str; 2] = ["steep", "balanced"];
+const BOTH: [bool; 2] = [false, true];
+
+/// What is said at the end.
 #[derive(Default)]
-struct Table {
-    /// the ratio to the C version, by medians or by the fastest runs, whichever is smaller
+struct Summary {
+    /// the ratio to the C version, by rounds or by the fastest, whichever is smaller
     ratios: Vec<(f64, String)>,
-    /// the proved call's fastest run, under each rule
-    fastest: Vec<Fastest>,
+    /// how many times as long as a steep one a balanced call takes
+    over_steep: Vec<OverSteep>,
 }
 
-struct Fastest {
+struct OverSteep {
     call: &'static str,
-    shape: &'static str,
     n: usize,
-    balanced: bool,
-    took: f64,
+    ratio: (f64, f64),
 }
 
-const RULES: [(&str, bool); 2] = [("steep", false), ("balanced", true)];
-
-impl Table {
-    fn line(&mut self, call: &str, rule: &str, shape: &str, n: usize, [(a, b), (c, d)]: [(f64, f64); 2]) {
-        let (ratio, least) = (a / b, c / d);
+impl Summary {
+    fn line(&mut self, call: &str, rule: &str, shape: &str, n: usize, [proved, plain]: &[Took; 2]) {
+        let (a, b, (ratio, least)) = (proved.median(), plain.median(), proved.over(plain));
         println!("| {call} | {rule} | {shape} | {n} | {a:.1} | {b:.1} | {ratio:.2} | {least:.2} |");
         self.ratios.push((ratio.min(least), format!("{call} {rule} {shape} {n}")));
     }
 
-    /// A line of a call that is made under both rules.
-    fn ruled(&mut self, call: &'static str, balanced: bool, shape: &'static str, n: usize, both: [(f64, f64); 2]) {
-        self.fastest.push(Fastest { call, shape, n, balanced, took: both[1].0 });
-        self.line(call, RULES[usize::from(balanced)].0, shape, n, both);
+    /// A call under both rules.
+    fn ruled(&mut self, call: &'static str, shape: &str, n: usize, took: &[[Took; 2]]) {
+        for (rule, both) in RULES.iter().zip(took) {
+            self.line(call, rule, shape, n, both);
+        }
+        self.over_steep.push(OverSteep { call, n, ratio: took[1][0].over(&took[0][0]) });
     }
 
-    /// How much more a balanced sheet costs than a steep one of the same tree, for each size. By the fastest runs: the two
-    /// rules are not timed in turn.
+    /// How many times as long as on a steep sheet of the same tree each call takes on a balanced one: by rounds, and by
+    /// the fastest; last the median over the shapes.
     fn balanced_over_steep(&self, n: usize) {
-        let of = |wanted: &Fastest| {
-            let steep = self
-                .fastest
-                .iter()
-                .find(|m| (m.call, m.shape, m.n, m.balanced) == (wanted.call, wanted.shape, wanted.n, false));
-            wanted.took / steep.expect("both rules are timed").took
-        };
-        println!("\nbalanced over steep, {n} lots, by the fastest runs:");
+        println!("\nbalanced over steep, {n} lots:\n\n| Call | {} | median |", SHAPES.join(" | "));
+        println!("|---|{}---|", "---|".repeat(SHAPES.len()));
         for call in ["layout", "lengthen", "shorten", "direction"] {
-            let ratios: Vec<_> = self.fastest.iter().filter(|m| m.balanced && m.call == call && m.n == n).collect();
-            let shown: Vec<_> = ratios.iter().map(|m| format!("{} {:.2}", m.shape, of(m))).collect();
-            println!("    {call}: {}", shown.join(", "));
+            let ratios: Vec<_> =
+                self.over_steep.iter().filter(|o| (o.call, o.n) == (call, n)).map(|o| o.ratio).collect();
+            let shown: Vec<_> = ratios.iter().map(|(ratio, least)| format!("{ratio:.2} ({least:.2})")).collect();
+            let middle = median(ratios.iter().map(|r| r.0).collect());
+            println!("| {call} | {} | {middle:.2} |", shown.join(" | "));
         }
     }
 
     fn worst(&mut self) {
         self.ratios.sort_by(|a, b| b.0.total_cmp(&a.0));
         let over = self.ratios.iter().filter(|w| w.0 > 1.10).count();
-        println!(
-            "\n{over} of {} above 1.10 times the C version, by medians and by the fastest runs:",
-            self.ratios.len()
-        );
+        println!("\n{over} of {} above 1.10 times the C version, by rounds and by the fastest:", self.ratios.len());
         for (ratio, what) in self.ratios.iter().take(8) {
             println!("    {ratio:.2}  {what}");
         }
     }
 }
 
-/// A lot whose edge can be made longer by 1, with as many lots below as may be.
-fn stretchable(l: &mut Lists, balanced: bool) -> u32 {
-    let mut lot = l.parent[1..].iter().position(|&p| p == 0).map_or(1, |v| v as u32 + 1);
-    loop {
-        plain::lengthen(l, balanced, lot);
-        if l.reply[0] == 1 {
-            plain::shorten(l, balanced, lot);
-            return lot;
-        }
-        lot = (2 * lot).min(l.lots() as u32 - 1);
+/// Whether the lot's edge can be made longer by 1; the sheet stays.
+fn stretches(l: &mut Lists, b: bool) -> bool {
+    plain::lengthen(l, b);
+    let accepted = l.reply[0] == 1;
+    if accepted {
+        plain::shorten(l, b);
+    }
+    accepted
+}
+
+/// Chooses a child of the root, or else a lot further on, that can be stretched on both fresh sheets.
+fn choose_lot(l: &mut Lists) {
+    let n = l.lots() as u32;
+    l.lot = l.parent[1..].iter().position(|&p| p == 0).map_or(1, |v| v as u32 + 1);
+    while !BOTH.iter().all(|&b| stretches(l, b)) {
+        l.lot += (n - l.lot) / 8;
     }
 }
 
-fn nothing(_: &mut Lists) {}
-
-/// The calls that lay out and stretch, and the direction, under one rule.
-fn ruled_calls(table: &mut Table, samples: usize, l: &mut Lists, shape: &'static str, b: bool) {
-    let n = l.lots();
-    let (u, v) = (n as u32 - 1, n as u32 / 2);
-    let both = pair(samples, l, &|l| proved::layout(l, b), &|l| plain::layout(l, b), &nothing);
-    table.ruled("layout", b, shape, n, both);
-    let lot = stretchable(l, b);
-    let (longer, shorter) = (|l: &mut Lists| plain::lengthen(l, b, lot), |l: &mut Lists| plain::shorten(l, b, lot));
-    let both = pair(samples, l, &|l| proved::lengthen(l, b, lot), &longer, &shorter);
-    table.ruled("lengthen", b, shape, n, both);
-    longer(l);
-    let both = pair(samples, l, &|l| proved::shorten(l, b, lot), &shorter, &longer);
-    table.ruled("shorten", b, shape, n, both);
-    plain::layout(l, b);
-    let both = pair(samples, l, &|l| proved::direction(l, b, u, v), &|l| plain::direction(l, b, u, v), &nothing);
-    table.ruled("direction", b, shape, n, both);
-}
-
-fn tree_files(table: &mut Table, samples: usize, l: &mut Lists, shape: &'static str) {
-    let both = pair(samples, l, &proved::write_tree, &plain::write_tree, &nothing);
-    table.line("write_tree", "", shape, l.lots(), both);
-    let both = pair(samples, l, &proved::read_tree, &plain::read_tree, &nothing);
-    table.line("read_tree", "", shape, l.lots(), both);
-}
-
-fn checks(table: &mut Table, samples: usize, shape: &'static str, n: usize) {
-    let mut l = lists(shape, n);
-    for (rule, b) in RULES {
-        plain::layout(&mut l, b);
-        let both = pair((samples / 2).max(3), &mut l, &proved::check, &plain::check, &nothing);
-        table.line("check", rule, shape, n, both);
+/// The calls that lay out and stretch, and the direction, under both rules.
+fn ruled_calls(summary: &mut Summary, rounds: usize, trees: &mut [Lists], shape: &str) {
+    let mut time = |call, trees: &mut [Lists], calls| {
+        summary.ruled(call, shape, trees[0].lots(), &in_turn(rounds, trees, &BOTH, calls));
+    };
+    time("layout", trees, [proved::layout, plain::layout]);
+    time("lengthen", trees, [proved::lengthen, plain::lengthen]);
+    for l in &mut *trees {
+        BOTH.iter().for_each(|&b| plain::lengthen(l, b));
     }
+    time("shorten", trees, [proved::shorten, plain::shorten]);
+    time("direction", trees, [proved::direction, plain::direction]);
+}
+
+fn tree_files(summary: &mut Summary, rounds: usize, trees: &mut [Lists], shape: &str) {
+    let mut time = |call, calls| {
+        summary.line(call, "", shape, trees[0].lots(), &in_turn(rounds, trees, &[false], calls)[0]);
+    };
+    time("write_tree", [proved::write_tree, plain::write_tree]);
+    time("read_tree", [proved::read_tree, plain::read_tree]);
+}
+
+fn checks(summary: &mut Summary, rounds: usize, shape: &str, n: usize) {
+    let took = in_turn(rounds, &mut trees(shape, n, 1), &BOTH, [proved::check, plain::check]);
+    summary.ruled("check", shape, n, &took);
 }
 
 fn main() {
-    let samples: usize = std::env::args().nth(1).map_or(41, |s| s.parse().expect("a number of samples"));
-    let mut table = Table::default();
+    let rounds: usize = std::env::args().nth(1).map_or(41, |s| s.parse().expect("a number of rounds"));
+    let mut summary = Summary::default();
     println!("| Call | Rule | Shape | n | proved, µs | C, µs | ratio | of the fastest |");
     println!("|---|---|---|---|---|---|---|---|");
-    let sizes = [(1024, 20 * samples), (65_536, samples)];
-    for (n, samples) in sizes {
+    let sizes = [(1024, 16, 20 * rounds), (65_536, 1, rounds)];
+    for (n, count, rounds) in sizes {
         for shape in SHAPES {
-            let mut l = lists(shape, n);
-            for (_, b) in RULES {
-                ruled_calls(&mut table, samples, &mut l, shape, b);
-            }
-            tree_files(&mut table, samples, &mut l, shape);
+            let mut trees = trees(shape, n, count);
+            ruled_calls(&mut summary, rounds, &mut trees, shape);
+            tree_files(&mut summary, rounds, &mut trees, shape);
         }
     }
     for n in [1024, 4096] {
         for shape in SHAPES {
-            checks(&mut table, samples, shape, n);
+            checks(&mut summary, (rounds / 2).max(3), shape, n);
         }
     }
-    for (n, _) in sizes {
-        table.balanced_over_steep(n);
+    for (n, ..) in sizes {
+        summary.balanced_over_steep(n);
     }
-    table.worst();
+    summary.worst();
 }
