@@ -173,8 +173,8 @@ fn lists(shape: &str, n: usize, seed: u64) -> Lists {
     Lists { parent, rank, sheets, work: vec![0; 4 * n], bytes: vec![0; 4 + 8 * n], reply: [0; 3], lot: 1 }
 }
 
-/// Trees of one shape, laid out under both rules. Those numbered at random differ, so that a processor which learns a
-/// small tree's branches by heart does not make one version of a call look faster.
+/// Trees of one shape, laid out under both rules. Random ones differ, so that a processor which learns a small tree's
+/// branches by heart does not make one version of a call look faster.
 fn trees(shape: &str, n: usize, count: u64) -> Vec<Lists> {
     let mut trees: Vec<Lists> = (1..=count).map(|seed| lists(shape, n, seed)).collect();
     for l in &mut trees {
