@@ -38,10 +38,10 @@
 extern "C" {
 #endif
 
-/* The version of the library that this header belongs to. */
-#define LINEAGE_VERSION "0.1.0"
+/* The version of the library that this header belongs to. From 0.2 frames count grid cells. */
+#define LINEAGE_VERSION "0.2.0"
 #define LINEAGE_VERSION_MAJOR 0
-#define LINEAGE_VERSION_MINOR 1
+#define LINEAGE_VERSION_MINOR 2
 #define LINEAGE_VERSION_PATCH 0
 
 /* The most lots of a table, the most that the check takes, and the largest x and y on a sheet. */
@@ -87,8 +87,8 @@ enum lineage_refusal {
     LINEAGE_WRONG_FILE_LENGTH = 17
 };
 
-/* Writes the fresh sheet, every times 1, into times, x and y. Reply: {1, width, height}, the largest x and y.
- * Refusals 1 to 7. */
+/* Writes the fresh sheet, every times 1, into times, x and y. Reply: {1, width, height}, the frame in
+ * grid cells: the largest x plus 1 and the largest y plus 1. Refusals 1 to 7. */
 bool lineage_layout(bool balanced, const uint32_t *parent, size_t parent_length, const uint32_t *rank,
                     size_t rank_length, uint32_t *times, size_t times_length, uint32_t *x, size_t x_length,
                     uint32_t *y, size_t y_length, uint32_t *work, size_t work_length, int64_t *reply,

@@ -4,9 +4,9 @@ path between them rise. All the work is done by the proved library; this module 
 >>> tree = Tree([0, 0, 0, 1, 1], [0, 0, 1, 0, 1])
 >>> sheet = Sheet(tree, "steep")
 >>> sheet.frame
-Frame(width=2, height=5)
+Frame(width=3, height=6)
 >>> sheet.lengthen(1, 2)
-Frame(width=4, height=11)
+Frame(width=5, height=12)
 >>> sheet.x, sheet.y
 ([0, 3, 1, 4, 4], [0, 9, 4, 10, 11])
 >>> sheet.direction(3, 2)
@@ -258,7 +258,7 @@ class Tree:
 
 
 class Frame(NamedTuple):
-    """The largest x and the largest y of a sheet."""
+    """The grid cells of a sheet, from the root's: the largest x plus 1 and the largest y plus 1."""
 
     width: int
     height: int
@@ -323,7 +323,7 @@ class Sheet:
         self._balanced = _balanced(rule)
         self._tree, self._times, self._x, self._y = tree, times, x, y
         self._work = _zeros(4 * len(tree))
-        self._frame = Frame(0, 0)
+        self._frame = Frame(1, 1)  # that of one lot; with more lots a call sets it
 
     def _ask(self, call: str, *numbers: int) -> Frame:
         lists = self._tree._parents, self._tree._ranks, self._times, self._x, self._y, self._work
@@ -359,7 +359,7 @@ class Sheet:
 
     @property
     def frame(self) -> Frame:
-        """The largest x and the largest y."""
+        """The grid cells that it takes: the largest x plus 1 and the largest y plus 1."""
         return self._frame
 
     @property

@@ -166,7 +166,7 @@ class Refusals(unittest.TestCase):
         self.refused(3, 0, Sheet.from_lists, tree, "steep", [1] * 4, sheet.x, sheet.y)
         self.refused(8, 2, Sheet.from_lists, tree, "steep", sheet.times, [0, 1, 2, 2, 2], sheet.y)
         self.refused(8, 0, Sheet.from_lists, Tree([0], [0]), "steep", [2], [0], [0])
-        self.assertEqual(Sheet.from_lists(Tree([0], [0]), "steep", [1], [0], [0]).frame, (0, 0))
+        self.assertEqual(Sheet.from_lists(Tree([0], [0]), "steep", [1], [0], [0]).frame, (1, 1))
 
     def test_checks(self):
         self.refused(3, 0, lineage.check, Tree(*FIVE), [0], [0])

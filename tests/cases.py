@@ -67,7 +67,7 @@ class Sheet:
             self.y[v] = self.y[p] + self.slope[v][1]
 
     def frame(self):
-        return (1, max(self.x), max(self.y)) if self.tree.n <= LOTS else (0, 2, 0)
+        return (1, max(self.x) + 1, max(self.y) + 1) if self.tree.n <= LOTS else (0, 2, 0)
 
     def move(self, longer, v, c):
         if self.tree.n > LOTS:

@@ -49,19 +49,21 @@ static bool is_fresh_steep(void)
 static void sheets(void)
 {
     expect("a reply of two numbers", !lineage_layout(false, TABLE, SHEET, WORK, reply, 2));
-    expect("steep frame", replied(lineage_layout(false, TABLE, SHEET, WORK, REPLY), 1, 2, 5));
+    expect("steep frame", replied(lineage_layout(false, TABLE, SHEET, WORK, REPLY), 1, 3, 6));
     expect("steep sheet", is_fresh_steep());
     expect("it is monotone", replied(lineage_check(TABLE, x, 5, y, 5, WORK, REPLY), 1, 0, 0));
 
-    expect("lengthen lot 1 by 2", replied(lineage_lengthen(false, TABLE, SHEET, WORK, 1, 2, REPLY), 1, 4, 11));
+    expect("lengthen lot 1 by 2", replied(lineage_lengthen(false, TABLE, SHEET, WORK, 1, 2, REPLY), 1, 5, 12));
     expect("lots 1, 3 and 4 moved", are(times, 1, 3, 1, 1, 1) && are(x, 0, 3, 1, 4, 4) && are(y, 0, 9, 4, 10, 11));
     expect("shorten by 3",
            refused(lineage_shorten(false, TABLE, SHEET, WORK, 1, 3, REPLY), LINEAGE_COUNT_TOO_LARGE, 1));
-    expect("shorten by 2", replied(lineage_shorten(false, TABLE, SHEET, WORK, 1, 2, REPLY), 1, 2, 5));
+    expect("shorten by 2", replied(lineage_shorten(false, TABLE, SHEET, WORK, 1, 2, REPLY), 1, 3, 6));
     expect("the fresh sheet is back", is_fresh_steep());
 
-    expect("balanced frame", replied(lineage_layout(true, TABLE, SHEET, WORK, REPLY), 1, 6, 3));
+    expect("balanced frame", replied(lineage_layout(true, TABLE, SHEET, WORK, REPLY), 1, 7, 4));
     expect("balanced sheet", are(x, 0, 3, 1, 6, 5) && are(y, 0, 2, 1, 3, 3));
+    expect("one lot is 1 by 1",
+           replied(lineage_layout(true, parent, 1, ranks, 1, times, 1, x, 1, y, 1, work, 4, REPLY), 1, 1, 1));
 }
 
 static void directions(void)

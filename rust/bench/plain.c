@@ -134,8 +134,8 @@ static bool framed(const uint32_t *x, const uint32_t *y, uint32_t n, int64_t *re
             height = y[v];
     }
     reply[0] = 1;
-    reply[1] = width;
-    reply[2] = height;
+    reply[1] = (int64_t)width + 1;
+    reply[2] = (int64_t)height + 1;
     return true;
 }
 

@@ -2,12 +2,12 @@
 use mathlib.Core.Bool.{Bool}
 use mathlib.Core.List.{List}
 use mathlib.Core.Option.{none, some}
-use mathlib.Core.Path.{_≡_, sym, ap, subst, _∙_}
+use mathlib.Core.Path.{_≡_, sym, ap, subst, subst⁻¹, _∙_}
 use Prim.Native.Nat.{ℕ, _^_, _<_}
 use native.Mathlib.Omega.{arith}
 use lib.ListN.{length}
 use Rattle.laws.specs.Refusals.{some-not-none, orElse-first, settle-none, settle-some}
-use Rattle.laws.specs.Search.{Refusal, Outcome}
+use Rattle.laws.specs.Search.{Refusal}
 use Rattle.table.specs.Acceptance.{accepting, validity-accepted, validity}
 use Rattle.table.specs.declared.Limits.{Limits}
 use Rattle.table.specs.declared.Validity.{Validity}
@@ -18,9 +18,10 @@ use Rattle.table.specs.Parts.{Validated, Ready}
 use Rattle.slopes.specs.declared.Rule.{Rule}
 use Rattle.drawing.specs.declared.Framed.{Framed}
 use Rattle.drawing.specs.declared.Framed.the-variants as framed
+use Rattle.drawing.specs.CallLaws.{fresh-within}
 use Rattle.drawing.specs.Drawing.{Drawing, lengthsFit, fresh, frame, layout, OnDrawing}
 use Rattle.drawing.specs.FreshLaws.{Roomy}
-use Rattle.drawing.specs.Parts.{Prepared, Blank, fault, no-fault, sized}
+use Rattle.drawing.specs.Parts.{Framable, FramesFit, Prepared, Blank, fault, no-fault, sized, framable}
 
 -- where the table is accepted, the work list may change
 never-spared : (L : Limits) (P R : List ℕ) (long : Bool) (work : ℕ) (f : Refusal) → tableFault L P R long work ≡ none
@@ -67,14 +68,20 @@ module _ (L : Limits) (P R : List ℕ) (s : Drawing) {long : Bool} {W X : List �
       }
 
 module _ {L : Limits} {P R : List ℕ} {s : Drawing} {W X : List ℕ} {r : Validity} (p : Prepared L P R s W X r) where
-  pub blank : {rule : Rule} → L .place < 2 ^ 32 → Roomy L → r ≡ Accepted → Blank P R rule s X
-  blank {rule} low room e =
+  pub blank : {rule : Rule} → Roomy L → FramesFit L → r ≡ Accepted → Blank P R rule s X
+  blank {rule} room low e =
       let few = accepting L P R _ (length W) (no-fault p e) .shape .few in
       record {
         sized = sized p e;
         wide = omega (arith, room .across rule (length P) few);
         tall = omega (arith, room .up rule (length P) few);
       }
+
+  pub fresh-framable : (rule : Rule) {t : Drawing} → Roomy L → FramesFit L → r ≡ Accepted
+      → t ≡ fresh P R rule → Framable (t .x) (t .y)
+  fresh-framable rule room low e is =
+      let a = accepting L P R _ (length W) (no-fault p e) in
+      subst⁻¹ (λ (u : Drawing). Framable (u .x) (u .y)) is (framable low (fresh-within room a rule))
 
   pub laid-refused : (rule : Rule) {k z : ℕ} → r ≡ Refused k z
       → OnDrawing L P R s W s X (framed.Refused k z) (layout L P R rule s (length W))

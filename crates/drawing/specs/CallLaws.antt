@@ -2,12 +2,13 @@
 --
 --   settled        == a call on a drawing that answers a frame refused nothing
 --   Inspected L .. == what refusals 1 to 8 leave
---   layout-drawn   == layout leaves a drawing
-use mathlib.Core.Bool.{not}
+--   fresh-within   == at limits with room, the fresh drawing of an accepted table is a drawing
+--   layout-drawn   == so layout leaves one
+use mathlib.Core.Bool.{Bool, not}
 use mathlib.Core.List.{List}
 use mathlib.Core.Option.{Option, none, some}
 use mathlib.Core.Path.{_≡_, refl, sym, ap, subst, _∙_}
-use Prim.Native.Nat.{ℕ, _≤_, _<_}
+use Prim.Native.Nat.{ℕ}
 use native.Mathlib.Omega.{arith}
 use lib.ListN.{length}
 use borrow.Author.Tests.{not-false}
@@ -64,6 +65,11 @@ inspected-again {L} {P} {R} {rule} {s} {work} x {t} d =
     (λ l. absurd (omega arith)))
     (omega arith)
 
+pub fresh-within : {L : Limits} {P R : List ℕ} {long : Bool} {work : ℕ} → Roomy L → Accepting L P R long work
+    → (rule : Rule) → Drawn (L .place) P R rule (fresh P R rule)
+fresh-within {P = P} room a rule =
+    fresh-drawn (a .tree) rule (room .across rule (length P) (a .shape .few)) (room .up rule (length P) (a .shape .few))
+
 -- layout leaves a drawing with every times 1
 pub layout-drawn : (L : Limits) → Roomy L → (P R : List ℕ) (rule : Rule) (old : Drawing) (work w h : ℕ) (s : Drawing)
     → layout L P R rule old work ≡ record { answer = Frame w h; left = s }
@@ -72,10 +78,5 @@ unfolding layout
 layout-drawn L room P R rule old work w h s e =
     let new = fresh P R rule in
     let f = settled old new (frame new) (tableFault L P R (lengthsFit P old) work) e in
-    let a = accepting L P R (lengthsFit P old) work (f .0) in (
-      a .tree,
-      subst (λ t. Drawn (L .place) P R rule t) (f .1)
-          (fresh-drawn (a .tree) rule (room .across rule (length P) (a .shape .few))
-          (room .up rule (length P) (a .shape .few))),
-      f .1,
-    )
+    let a = accepting L P R (lengthsFit P old) work (f .0) in
+    (a .tree, subst (λ t. Drawn (L .place) P R rule t) (f .1) (fresh-within room a rule), f .1)

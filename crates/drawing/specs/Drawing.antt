@@ -9,7 +9,7 @@
 --   pathSum P g v             == the sum of g over the path of v: v, its parent, .., a child of the root
 --   fresh P R rule            == the drawing with every times 1
 --   largest l                 == the largest of a list, 0 of an empty one
---   frame s                   == the largest x and the largest y
+--   frame s                   == the largest x plus 1 and the largest y plus 1: the grid cells across and up
 --   placed limit .. v         == a coordinate of v is right against its parent's, and within the limit
 --   nodeFits limit .. v       == times and place of v are right against its parent's place, and within the limit
 --   drawingFault L ..         == refusals 1 to 8 at the limits L
@@ -66,7 +66,7 @@ largest [] = 0
 largest (a ∷ l) = max a (largest l)
 
 unfoldable pub frame : Drawing → Framed
-frame s = Frame (largest (s .x)) (largest (s .y))
+frame s = Frame (largest (s .x) + 1) (largest (s .y) + 1)
 
 ------------------------------------------------------------------------
 -- 8: not a drawing of the table under the rule

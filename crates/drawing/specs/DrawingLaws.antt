@@ -5,6 +5,7 @@
 --   fits-drawn, drawn-fits        == it is one exactly when every node fits
 --   drawn-times                   == times are within the limit too
 --   largest-above, largest-found  == the largest of a list is above all, and one of them or 0
+--   largest-within                == in a coordinate it is within the limit
 use mathlib.Core.Bool.{Bool, true, cond, _&&_}
 use mathlib.Core.List.{List, [], _∷_}
 use mathlib.Core.Logic.{_⊎_, inl, inr, ⊎-elim}
@@ -206,3 +207,11 @@ largest-found (a ∷ l) =
     inr (suc (f .0), omega arith, omega arith))
     (largest-found l))
     (λ h. inr (0, omega arith, omega arith))
+
+pub largest-within : {limit : ℕ} {P R : List ℕ} {rule : Rule} {times : List ℕ} {part : Slope → ℕ} {X : List ℕ}
+    → Coordinate limit P R rule times part X → largest X ≤ limit
+largest-within {X = X} c =
+    ⊎-elim (λ e. omega arith)
+    (λ (f : (k : ℕ) × (k < length X) × (getD X k 0 ≡ largest X)).
+    omega (arith, c .within (f .0) (omega (arith, f .1, c .long)), f .2))
+    (largest-found X)

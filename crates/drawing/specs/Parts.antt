@@ -1,5 +1,7 @@
 -- What the parts of layout need and leave.
 --
+--   Framable X Y           == the frame of the places X and Y is two numbers of 32 bits
+--   FramesFit L            == so is every frame within the limits L
 --   Tested L .. f Left r   == the answer r to a call on the drawing s is refusal f; if there is none, Left holds then
 --   Prepared L .. r        == refusals 1 to 7; if none, the table is numbered
 --   Sized P R s W          == the lists of s are as long as the table, which is numbered
@@ -7,7 +9,7 @@
 use mathlib.Core.List.{List}
 use mathlib.Core.Option.{Option, none}
 use mathlib.Core.Path.{_≡_, sym, ap, _∙_}
-use Prim.Native.Nat.{ℕ, _^_, _<_}
+use Prim.Native.Nat.{ℕ, _+_, _^_, _<_}
 use native.Mathlib.Omega.{arith}
 use lib.ListN.{length}
 use Rattle.laws.specs.Refusals.{refusal}
@@ -18,11 +20,17 @@ use Rattle.table.specs.declared.Validity.{Validity}
 use Rattle.table.specs.declared.Validity.the-variants.{Accepted, Refused}
 use Rattle.table.specs.Numbering.{NumberedTree}
 use Rattle.table.specs.Parts.{Spared}
-use Rattle.table.specs.Table.{shapeFault, tableFault}
+use Rattle.table.specs.Table.{large, shapeFault, tableFault}
 use Rattle.slopes.specs.declared.Rule.{Rule}
 use Rattle.slopes.specs.SlopeLaws.{acrossBound, upBound}
-use Rattle.drawing.specs.Drawing.{Drawing, lengthsFit}
-use Rattle.drawing.specs.DrawingLaws.{three-long}
+use Rattle.drawing.specs.Drawing.{Drawing, lengthsFit, largest}
+use Rattle.drawing.specs.DrawingLaws.{Drawn, three-long, largest-within}
+
+abbrev pub Framable : List ℕ → List ℕ → Type 0
+Framable X Y = (largest X + 1 < 2 ^ 32) × (largest Y + 1 < 2 ^ 32)
+
+abbrev pub FramesFit : Limits → Type 0
+FramesFit L = L .place + 1 < 2 ^ 32
 
 pub record Tested (L : Limits) (P R : List ℕ) (s : Drawing) (W X : List ℕ) (fault : Option Refusal) (Left : Type 0)
     (r : Validity) : Type 0 where
@@ -74,3 +82,10 @@ pub sized : {L : Limits} {P R : List ℕ} {s : Drawing} {W X : List ℕ} {r : Va
 sized {L} {P} {R} {s} {W} p e =
     let three = three-long (length P) s (accepting L P R _ (length W) (no-fault p e) .shape .others) in
     record { numbered = p .left e; times = three .0; x = three .1; y = three .2 }
+
+pub framable : {limit : ℕ} {P R : List ℕ} {rule : Rule} {s : Drawing} → limit + 1 < 2 ^ 32 → Drawn limit P R rule s
+    → Framable (s .x) (s .y)
+framable low d = (omega (arith, largest-within (d .x)), omega (arith, largest-within (d .y)))
+
+pub large-frames : {L : Limits} → L ≡ large → FramesFit L
+large-frames e = omega (arith, ap (λ (L : Limits). L .place) e)

@@ -1,4 +1,5 @@
--- Document 01's cases that are marked [proved]: one table, and one theorem about the definitions.
+-- Document 01's cases that are marked [proved], as document 02 changes them: one table, and one theorem about the
+-- definitions. Frames count grid cells (request 101).
 --
 --   Case          == a case, with what document 01 says of it
 --   Holds c       == the definitions say so
@@ -121,8 +122,8 @@ unfoldable pub cases : List Case
 cases =
     -- the five lots
     Numbers fiveParents fiveRanks (5 ∷ 3 ∷ 4 ∷ 1 ∷ 2 ∷ [])
-    ∷ Calls (layout large fiveParents fiveRanks Steep anyFive 20) (Frame 2 5) steep
-    ∷ Calls (layout large fiveParents fiveRanks Balanced anyFive 20) (Frame 6 3) balanced
+    ∷ Calls (layout large fiveParents fiveRanks Steep anyFive 20) (Frame 3 6) steep
+    ∷ Calls (layout large fiveParents fiveRanks Balanced anyFive 20) (Frame 7 4) balanced
     ∷ Prints fiveParents fiveRanks fiveText
     -- steep directions
     ∷ Goes 3 2 (negℤ (pos 7)) (pos 2)
@@ -130,15 +131,15 @@ cases =
     ∷ Goes 4 3 (pos 3) (negℤ (pos 2))
     ∷ Goes 0 4 (pos 1) (pos 1)
     -- lot 1 longer by 2, then shorter by 3 and by 2
-    ∷ Calls (lengthen large fiveParents fiveRanks Steep steep 20 1 2) (Frame 4 11) stretchedOne
+    ∷ Calls (lengthen large fiveParents fiveRanks Steep steep 20 1 2) (Frame 5 12) stretchedOne
     ∷ Calls (shorten large fiveParents fiveRanks Steep stretchedOne 20 1 3) (Refused 12 1) stretchedOne
-    ∷ Calls (shorten large fiveParents fiveRanks Steep stretchedOne 20 1 2) (Frame 2 5) steep
+    ∷ Calls (shorten large fiveParents fiveRanks Steep stretchedOne 20 1 2) (Frame 3 6) steep
     -- three balanced levels
     ∷ Levels 3 (1 over 3 ∷ 1 over 2 ∷ 2 over 3 ∷ 1 over 1 ∷ 3 over 2 ∷ 2 over 1 ∷ 3 over 1 ∷ [])
     -- one lot
-    ∷ Calls (layout large one one Balanced (lent (9 ∷ []) (9 ∷ []) (9 ∷ [])) 4) (Frame 0 0) (lent (1 ∷ []) one one)
+    ∷ Calls (layout large one one Balanced (lent (9 ∷ []) (9 ∷ []) (9 ∷ [])) 4) (Frame 1 1) (lent (1 ∷ []) one one)
     -- two lots, up to the largest place and one beyond it
-    ∷ Calls (lengthen large two two Steep freshTwo 8 1 2147483646) (Frame 2147483647 2147483647) farTwo
+    ∷ Calls (lengthen large two two Steep freshTwo 8 1 2147483646) (Frame 2147483648 2147483648) farTwo
     ∷ Calls (lengthen large two two Steep freshTwo 8 1 2147483647) (Refused 11 1) freshTwo
     -- chains, and two lots at one place
     ∷ Checks (0 ∷ 0 ∷ 1 ∷ 2 ∷ []) (0 ∷ 0 ∷ 0 ∷ 0 ∷ []) (0 ∷ 1 ∷ 1 ∷ 0 ∷ []) (0 ∷ 0 ∷ 1 ∷ 1 ∷ []) (Turns 0 3)

@@ -21,12 +21,12 @@ use Rattle.drawing.specs.declared.Framed.{Framed}
 use Rattle.drawing.specs.declared.Framed.the-variants as framed
 use Rattle.drawing.specs.Drawing.{Drawing, lent, frame, redrawn, OnDrawing}
 use Rattle.drawing.specs.DrawingLaws.{Coordinate, Drawn, drawn-times, same-drawing}
-use Rattle.drawing.specs.Parts.{fault, no-fault}
+use Rattle.drawing.specs.Parts.{Framable, FramesFit, fault, no-fault, framable}
 use Rattle.stretching.specs.CallLaws.{Examined, examined, beyond-no, beyond-x, beyond-y, no-beyond}
-use Rattle.stretching.specs.Parts.{by, Examining, Passes, Movable, Stretchable, Stretched}
+use Rattle.stretching.specs.Parts.{by, Examining, Passes, Movable, Stretchable}
 use Rattle.stretching.specs.Stretching.{moved, stretched, beyond, stretchFault, lengthen, shorten}
 use Rattle.stretching.specs.StretchLaws.{shorter, longer, Moved, offset-in, moved-in, moved-out}
-use Rattle.stretching.specs.StretchLaws.{longer-stretch, back-room, stretch-drawn}
+use Rattle.stretching.specs.StretchLaws.{longer-stretch, back-room, shorter-stretch, stretch-drawn, unstretch-drawn}
 
 ------------------------------------------------------------------------
 -- The limit
@@ -99,18 +99,17 @@ pub times-fit : {P R : List ℕ} {rule : Rule} {s : Drawing} {W : List ℕ} {v c
 times-fit {longer = true} x t e h = omega (arith, x .more refl)
 times-fit {longer = false} x t e h = omega arith
 
-pub stretched-is : {P R : List ℕ} {rule : Rule} {T X Y : List ℕ} {v c : ℕ} {longer : Bool} {slope : Slope} {t k d h : ℕ}
-    {T′ X′ Y′ : List ℕ} {r : Framed} → slope ≡ edge P R rule v → d ≡ c * slope .across → h ≡ c * slope .up
-    → t ≡ getD T v 0 → k ≡ by longer t c → T′ ≡ set T v k
-    → X′ ≡ moved P (λ a. by longer a d) v X → Y′ ≡ moved P (λ a. by longer a h) v Y
-    → r ≡ frame (lent T′ X′ Y′) → Stretched P R rule (lent T X Y) v c longer (lent T′ X′ Y′) r
+pub stretched-is : {P R : List ℕ} {rule : Rule} {s : Drawing} {W : List ℕ} {v c : ℕ} {longer : Bool} {slope : Slope}
+    {t k d h : ℕ} {T X Y : List ℕ} → Stretchable P R rule s W v c longer
+    → slope ≡ edge P R rule v → d ≡ c * slope .across → h ≡ c * slope .up
+    → t ≡ getD (s .times) v 0 → k ≡ by longer t c → T ≡ set (s .times) v k
+    → X ≡ moved P (λ a. by longer a d) v (s .x) → Y ≡ moved P (λ a. by longer a h) v (s .y)
+    → lent T X Y ≡ stretched (by longer) P R rule s v c
 unfolding stretched
-stretched-is {P} {T = T} {X} {Y} {v} {c} {longer} is across up et ek p q r fr = record {
-  drawing = same-drawing (p ∙ ap (set T v) (ek ∙ ap (λ a. by longer a c) et))
-      (q ∙ ap (λ k. moved P (λ a. by longer a k) v X) (across ∙ ap (λ (k : Slope). c * k .across) is))
-      (r ∙ ap (λ k. moved P (λ a. by longer a k) v Y) (up ∙ ap (λ (k : Slope). c * k .up) is));
-  answer = fr;
-}
+stretched-is {P} {s = s} {v = v} {c} {longer} x is across up et ek p q r =
+    same-drawing (p ∙ ap (set (s .times) v) (ek ∙ ap (λ a. by longer a c) et))
+    (q ∙ ap (λ k. moved P (λ a. by longer a k) v (s .x)) (across ∙ ap (λ (k : Slope). c * k .across) is))
+    (r ∙ ap (λ k. moved P (λ a. by longer a k) v (s .y)) (up ∙ ap (λ (k : Slope). c * k .up) is))
 
 ------------------------------------------------------------------------
 -- The outcomes
@@ -175,10 +174,9 @@ module _ {L : Limits} {P R : List ℕ} (rule : Rule) {s : Drawing} {W : List ℕ
           own-refused ok _ (longer P R rule s v c) (refuse-yes _ (L .far) v (sym e ∙ t))
 
       pub lengthened : {q : Bool} {t : Drawing} {a : Framed} → q ≡ beyond (L .place) (length P) (longer P R rule s v c)
-          → q ≡ false → Stretched P R rule s v c true t a → Lengthened t a
+          → q ≡ false → t ≡ longer P R rule s v c → a ≡ frame t → Lengthened t a
       unfolding lengthen
-      lengthened e f new =
-          renewed ok _ (longer P R rule s v c) (refuse-no _ (L .far) v (sym e ∙ f)) (new .drawing) (new .answer)
+      lengthened e f = renewed ok _ (longer P R rule s v c) (refuse-no _ (L .far) v (sym e ∙ f))
 
       pub shortened-12 : {n : ℕ} → n ≡ getD (s .times) v 0 → n ≤ c → Shortened s (framed.Refused 12 v)
       unfolding shorten
@@ -187,21 +185,48 @@ module _ {L : Limits} {P R : List ℕ} (rule : Rule) {s : Drawing} {W : List ℕ
           (refuse-yes _ 12 v (le-leb (getD (s .times) v 0) c (omega arith)))
 
       pub shortened : {n : ℕ} {t : Drawing} {a : Framed} → n ≡ getD (s .times) v 0 → c < n
-          → Stretched P R rule s v c false t a → Shortened t a
+          → t ≡ shorter P R rule s v c → a ≡ frame t → Shortened t a
       unfolding shorten
-      shortened e h new =
+      shortened e h =
           renewed ok _ (shorter P R rule s v c)
-          (refuse-no _ 12 v (lt-leb (getD (s .times) v 0) c (omega arith))) (new .drawing) (new .answer)
+          (refuse-no _ 12 v (lt-leb (getD (s .times) v 0) c (omega arith)))
+
+      -- the new drawing is one, within the limits
+      longer-drawn : {q : Bool} → q ≡ beyond (L .place) (length P) (longer P R rule s v c) → q ≡ false
+          → Drawn (L .place) P R rule (longer P R rule s v c)
+      longer-drawn e f =
+          let x = examined-of ok in
+          stretch-drawn (x .inspected .accepting .tree) (x .above) (x .inside)
+          (longer-stretch (x .inspected .drawn) (x .inside)) (x .inspected .drawn)
+          (beyond-no (L .place) (length P) (longer P R rule s v c) (sym e ∙ f))
+
+      shorter-drawn : {n : ℕ} → n ≡ getD (s .times) v 0 → c < n → Drawn (L .place) P R rule (shorter P R rule s v c)
+      shorter-drawn e h =
+          let x = examined-of ok in
+          unstretch-drawn (x .inspected .accepting .tree) (x .above) (x .inside)
+          (shorter-stretch (x .inspected .accepting .tree) (x .above) (x .inside) (x .inspected .drawn) (omega arith))
+          (x .inspected .drawn) (omega arith)
+
+      -- so it has a frame
+      module _ (low : FramesFit L) {t : Drawing} where
+        pub longer-framable : {q : Bool} → q ≡ beyond (L .place) (length P) (longer P R rule s v c) → q ≡ false
+            → t ≡ longer P R rule s v c → Framable (t .x) (t .y)
+        longer-framable e f is =
+            subst⁻¹ (λ (u : Drawing). Framable (u .x) (u .y)) is (framable low (longer-drawn e f))
+
+        pub shorter-framable : {n : ℕ} → n ≡ getD (s .times) v 0 → c < n → t ≡ shorter P R rule s v c
+            → Framable (t .x) (t .y)
+        shorter-framable e h is =
+            subst⁻¹ (λ (u : Drawing). Framable (u .x) (u .y)) is (framable low (shorter-drawn e h))
 
       -- within the limit, the longer drawing has times and places that fit
-      pub can-lengthen : {q : Bool} → L .place < 2 ^ 32 → q ≡ beyond (L .place) (length P) (longer P R rule s v c)
+      pub can-lengthen : {q : Bool} → FramesFit L → q ≡ beyond (L .place) (length P) (longer P R rule s v c)
           → q ≡ false → Stretchable P R rule s X v c true
       unfolding stretched
       can-lengthen low e f =
           let x = examined-of ok in
           let m = longer-stretch {c = c} (x .inspected .drawn) (x .inside) in
-          let fits = beyond-no (L .place) (length P) (longer P R rule s v c) (sym e ∙ f) in
-          let d = stretch-drawn (x .inspected .accepting .tree) (x .above) (x .inside) m (x .inspected .drawn) fits in
+          let d = longer-drawn e f in
           record {
             numbered = k .left ok .numbered;
             above = x .above;
@@ -209,8 +234,8 @@ module _ {L : Limits} {P R : List ℕ} (rule : Rule) {s : Drawing} {W : List ℕ
             long = x .inspected .drawn .long;
             more = λ t. omega (arith, drawn-times (x .inspected .accepting .tree) d v (x .above) (x .inside), m .here);
             less = λ t. absurd (differ refl t);
-            x = movable-on (m .x) low (λ z l. fits z l .0);
-            y = movable-on (m .y) low (λ z l. fits z l .1);
+            x = movable-on (m .x) (omega arith) (d .x .within);
+            y = movable-on (m .y) (omega arith) (d .y .within);
           }
 
       pub can-shorten : {n : ℕ} → n ≡ getD (s .times) v 0 → c < n → Stretchable P R rule s X v c false

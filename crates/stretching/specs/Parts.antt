@@ -10,7 +10,6 @@
 --   Passes limit P X v d r == r says whether a place of v's subtree is beyond the limit when it is moved on by d
 --   Movable P X v d longer == v's subtree can be moved on, or back, by d
 --   Stretchable ..         == v's edge can be made longer, or shorter
---   Stretched .. t r       == the drawing t with that edge, and its frame r
 use mathlib.Core.Bool.{Bool, true, false, not, _&&_}
 use mathlib.Core.List.{List}
 use mathlib.Core.Path.{_≡_}
@@ -23,10 +22,9 @@ use Rattle.table.specs.Numbering.{NumberedTree}
 use Rattle.table.specs.Table.{under}
 use Rattle.slopes.specs.declared.Rule.{Rule}
 use Rattle.slopes.specs.Slopes.{acrossOf, upOf, edge}
-use Rattle.drawing.specs.declared.Framed.{Framed}
-use Rattle.drawing.specs.Drawing.{Drawing, frame, nodeFits, drawingFault}
+use Rattle.drawing.specs.Drawing.{Drawing, nodeFits, drawingFault}
 use Rattle.drawing.specs.Parts.{Sized, Tested}
-use Rattle.stretching.specs.Stretching.{stretched, stretchFault}
+use Rattle.stretching.specs.Stretching.{stretchFault}
 
 abbrev pub by : Bool → ℕ → ℕ → ℕ
 by true a d = a + d
@@ -70,8 +68,3 @@ pub record Stretchable (P R : List ℕ) (rule : Rule) (s : Drawing) (W : List �
   pub less : longer ≡ false → c ≤ getD (s .times) v 0
   pub x : Movable P (s .x) v (c * acrossOf (edge P R rule v)) longer
   pub y : Movable P (s .y) v (c * upOf (edge P R rule v)) longer
-
-pub record Stretched (P R : List ℕ) (rule : Rule) (s : Drawing) (v c : ℕ) (longer : Bool) (t : Drawing)
-    (r : Framed) : Type 0 where
-  pub drawing : t ≡ stretched (by longer) P R rule s v c
-  pub answer : r ≡ frame t

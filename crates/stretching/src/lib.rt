@@ -18,18 +18,18 @@ use table::put;
 ghost use mathlib.Core.Bool.{true, false};
 ghost use mathlib.Core.Path.{_≡_};
 ghost use Prim.Native.Nat.{_+_, _*_, _^_, _≤_, _<_};
-ghost use lib.ListN.{length, getD};
+ghost use lib.ListN.{length};
 ghost use Rattle.laws.specs.Search.{least};
 ghost use Rattle.table.specs.Numbering.{NumberedTree};
 ghost use Rattle.table.specs.Table.{large};
 ghost use Rattle.slopes.specs.Slopes.{edge};
 ghost use Rattle.drawing.specs.Drawing.{lent, nodeFits, OnDrawing};
 ghost use Rattle.drawing.specs.DrawingLaws.{Drawn};
-ghost use Rattle.drawing.specs.Parts.{Sized};
-ghost use Rattle.stretching.specs.Stretching.{moved, beyond, lengthen, shorten};
+ghost use Rattle.drawing.specs.Parts.{FramesFit, Sized};
+ghost use Rattle.stretching.specs.Stretching.{moved, stretched, beyond, lengthen, shorten};
 ghost use Rattle.stretching.specs.StretchLaws.{longer};
 ghost use Rattle.stretching.specs.Parts.{by, placedFrom, rootFits, misfit, AllFit, Inspecting, Examining};
-ghost use Rattle.stretching.specs.Parts.{Passes, Movable, Stretchable, Stretched};
+ghost use Rattle.stretching.specs.Parts.{Passes, Movable, Stretchable};
 
 // Whether v is at its parent's place p and `step` more, and within the limit.
 fn placed(limit: usize, places: &[u32], p: usize, v: usize, step: usize) -> bool
@@ -339,7 +339,7 @@ fn too_far(
     passes(limit, parent, rank, work, y, v, product(c, slope.up))
 }
 
-// Makes v's edge longer or shorter, moves its subtree along, and returns the frame.
+// Makes v's edge longer or shorter, and moves its subtree along.
 fn stretch(
     rule: Rule,
     parent: &[u32],
@@ -351,12 +351,12 @@ fn stretch(
     v: usize,
     count: u32,
     longer: bool,
-) -> Framed
+)
     requires { ⌜ Stretchable (now parent) (now rank) rule (lent (now times) (now x) (now y)) (now work)
         v count longer ⌝ }
-    ensures { λ r. ⌜ Stretched (now (parent .entry)) (now (rank .entry)) rule
-        (lent (now (times .entry)) (now (x .entry)) (now (y .entry))) v count longer
-        (lent (now (times .exit)) (now (x .exit)) (now (y .exit))) r ⌝ }
+    ensures { λ _. ⌜ lent (now (times .exit)) (now (x .exit)) (now (y .exit))
+        ≡ stretched (by longer) (now (parent .entry)) (now (rank .entry)) rule
+        (lent (now (times .entry)) (now (x .entry)) (now (y .entry))) v count ⌝ }
 {
     let c = count as usize;
     let slope = edge_slope(rule, parent, rank, work, v);
@@ -364,10 +364,9 @@ fn stretch(
     move_subtree(parent, rank, work, y, v, product(c, slope.up), longer);
     let t = get(times, v);
     put(times, v, changed(t, c, longer));
-    frame_of(x, y)
 }
 
-// Lengthen at any limits.
+// Lengthen at any limits whose frames are numbers of 32 bits.
 pub fn lengthen_within(
     limits: Limits,
     rule: Rule,
@@ -380,6 +379,7 @@ pub fn lengthen_within(
     lot: u32,
     count: u32,
 ) -> Framed
+    requires { ⌜ FramesFit limits ⌝ }
     ensures { λ r. ⌜ OnDrawing limits (now (parent .entry)) (now (rank .entry))
         (lent (now (times .entry)) (now (x .entry)) (now (y .entry))) (now (work .entry))
         (lent (now (times .exit)) (now (x .exit)) (now (y .exit))) (now (work .exit)) r
@@ -396,12 +396,13 @@ pub fn lengthen_within(
             if far {
                 return Framed::Refused(limits.far, lot);
             }
-            stretch(rule, parent, rank, times, x, y, work, v, count, true)
+            stretch(rule, parent, rank, times, x, y, work, v, count, true);
+            frame_of(x, y)
         }
     }
 }
 
-// Shorten at any limits.
+// Shorten at any limits whose frames are numbers of 32 bits.
 pub fn shorten_within(
     limits: Limits,
     rule: Rule,
@@ -414,6 +415,7 @@ pub fn shorten_within(
     lot: u32,
     count: u32,
 ) -> Framed
+    requires { ⌜ FramesFit limits ⌝ }
     ensures { λ r. ⌜ OnDrawing limits (now (parent .entry)) (now (rank .entry))
         (lent (now (times .entry)) (now (x .entry)) (now (y .entry))) (now (work .entry))
         (lent (now (times .exit)) (now (x .exit)) (now (y .exit))) (now (work .exit)) r
@@ -428,7 +430,8 @@ pub fn shorten_within(
             if get(times, v) <= count as usize {
                 return Framed::Refused(12, lot);
             }
-            stretch(rule, parent, rank, times, x, y, work, v, count, false)
+            stretch(rule, parent, rank, times, x, y, work, v, count, false);
+            frame_of(x, y)
         }
     }
 }

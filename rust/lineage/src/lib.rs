@@ -2,7 +2,7 @@
 //! direction makes every edge of the path between them rise.
 //!
 //! All the work is done by the proved static library; this crate lends it lists and names what it answers. Document
-//! 01's words are kept: a node is a *lot*, a drawing a *sheet*, the bounding box from the root its *frame*.
+//! 01's words are kept: a node is a *lot*, a drawing a *sheet*, the bounding box from the root, in grid cells, its *frame*.
 //!
 //! The library is liblineage.a in the folder that the environment variable LINEAGE_LIB_DIR names, or else the
 //! repository's own, which the Rattle toolchain builds.
@@ -12,7 +12,7 @@
 //!
 //! let tree = Tree::new(vec![0, 0, 0, 1, 1], vec![0, 0, 1, 0, 1])?;
 //! let mut sheet = Sheet::new(tree, Rule::Steep)?;
-//! assert_eq!(sheet.frame(), Frame { width: 2, height: 5 });
+//! assert_eq!(sheet.frame(), Frame { width: 3, height: 6 });
 //! assert_eq!(sheet.place(4), Some((2, 5)));
 //!
 //! sheet.lengthen(1, 2)?;
@@ -191,14 +191,17 @@ fn file_of(parent: &[u32], rank: &[u32]) -> Result<Vec<u8>, Refused> {
     Ok(bytes)
 }
 
-/// The largest x and the largest y of a sheet.
+/// The grid cells of a sheet, from the root's.
 #[derive(Clone, Copy, Debug, PartialEq, Eq)]
 pub struct Frame {
-    /// The largest x.
+    /// The largest x plus 1.
     pub width: u32,
-    /// The largest y.
+    /// The largest y plus 1.
     pub height: u32,
 }
+
+/// The frame of one lot.
+const CELL: Frame = Frame { width: 1, height: 1 };
 
 /// An edge (across, up) rises along it when d × across + e × up is above 0.
 #[derive(Clone, Copy, Debug, PartialEq, Eq)]
@@ -278,8 +281,7 @@ impl Sheet {
     pub fn new(tree: Tree, rule: Rule) -> Result<Sheet, Refused> {
         let n = tree.lots();
         let (times, x, y, work) = (vec![0; n], vec![0; n], vec![0; n], vec![0; 4 * n]);
-        let frame = Frame { width: 0, height: 0 };
-        let mut sheet = Sheet { tree, rule, times, x, y, work, frame };
+        let mut sheet = Sheet { tree, rule, times, x, y, work, frame: CELL };
         let (balanced, parent, rank, lists, work) = sheet.lent();
         let answer = asked(Call::Layout, |reply| raw::layout(balanced, parent, rank, lists, work, reply));
         sheet.framed(answer)?;
@@ -295,7 +297,7 @@ impl Sheet {
     ///
     /// let pair = Tree::new(vec![0, 0], vec![0, 0])?;
     /// let sheet = Sheet::from_lists(pair.clone(), Rule::Steep, vec![1, 5], vec![0, 5], vec![0, 5])?;
-    /// assert_eq!(sheet.frame(), Frame { width: 5, height: 5 });
+    /// assert_eq!(sheet.frame(), Frame { width: 6, height: 6 });
     ///
     /// let refused = |number, lot| Refused { call: Call::Lengthen, number, lot };
     /// let moved = Sheet::from_lists(pair.clone(), Rule::Steep, vec![1, 5], vec![0, 4], vec![0, 5]);
@@ -304,15 +306,16 @@ impl Sheet {
     /// assert_eq!(short.unwrap_err(), refused(3, 0));
     ///
     /// let one = Tree::new(vec![0], vec![0])?;
-    /// assert!(Sheet::from_lists(one.clone(), Rule::Steep, vec![1], vec![0], vec![0]).is_ok());
+    /// let sheet = Sheet::from_lists(one.clone(), Rule::Steep, vec![1], vec![0], vec![0])?;
+    /// assert_eq!(sheet.frame(), Frame { width: 1, height: 1 });
     /// assert_eq!(Sheet::from_lists(one, Rule::Steep, vec![2], vec![0], vec![0]).unwrap_err(), refused(8, 0));
     /// # Ok::<(), Refused>(())
     /// ```
     pub fn from_lists(tree: Tree, rule: Rule, times: Vec<u32>, x: Vec<u32>, y: Vec<u32>) -> Result<Sheet, Refused> {
-        let (work, frame) = (vec![0; 4 * tree.lots()], Frame { width: 0, height: 0 });
-        let mut sheet = Sheet { tree, rule, times, x, y, work, frame };
+        let work = vec![0; 4 * tree.lots()];
+        let mut sheet = Sheet { tree, rule, times, x, y, work, frame: CELL };
         match sheet.lengthen(1, 0) {
-            // one lot has no edge to lengthen; 9 comes after 3 and 8, so its lists are a sheet, of frame 0 by 0
+            // one lot has no edge to lengthen; 9 comes after 3 and 8, so its lists are a sheet, of one cell
             Err(Refused { number: 9, .. }) => Ok(sheet),
             asked => asked.map(|_| sheet),
         }
@@ -366,7 +369,7 @@ impl Sheet {
         self.rule
     }
 
-    /// The largest x and the largest y.
+    /// The grid cells that it takes: the largest x plus 1 and the largest y plus 1.
     pub fn frame(&self) -> Frame {
         self.frame
     }

@@ -14,7 +14,7 @@ fn number<T: std::fmt::Debug>(refused: Result<T, Refused>) -> u32 {
 #[test]
 fn lots() {
     let tree = star(MAX_LOTS).unwrap();
-    assert_eq!(Sheet::new(tree.clone(), Rule::Steep).unwrap().frame(), Frame { width: 1, height: MAX_LOTS - 1 });
+    assert_eq!(Sheet::new(tree.clone(), Rule::Steep).unwrap().frame(), Frame { width: 2, height: MAX_LOTS });
     assert_eq!(Tree::from_bytes(&tree.to_bytes()).unwrap(), tree);
     assert_eq!(number(star(MAX_LOTS + 1)), 2);
 }
@@ -31,7 +31,7 @@ fn places() {
     let pair = star(2).unwrap();
     let mut sheet = Sheet::new(pair.clone(), Rule::Steep).unwrap();
     assert_eq!(number(sheet.lengthen(1, MAX_PLACE)), 11);
-    assert_eq!(sheet.lengthen(1, MAX_PLACE - 1), Ok(Frame { width: MAX_PLACE, height: MAX_PLACE }));
+    assert_eq!(sheet.lengthen(1, MAX_PLACE - 1), Ok(Frame { width: MAX_PLACE + 1, height: MAX_PLACE + 1 }));
     assert_eq!(check(&pair, &[0, MAX_PLACE], &[0, 0]), Ok(Verdict::Monotone));
     assert_eq!(number(check(&pair, &[0, MAX_PLACE + 1], &[0, 0])), 15);
 }

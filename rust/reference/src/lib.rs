@@ -204,7 +204,8 @@ fn refused((number, lot): Refusal) -> Reply {
 }
 
 fn frame(s: &Sheet) -> Reply {
-    [1, *s.x.iter().max().unwrap() as i64, *s.y.iter().max().unwrap() as i64]
+    let cells = |places: &[u32]| i64::from(*places.iter().max().unwrap()) + 1;
+    [1, cells(&s.x), cells(&s.y)]
 }
 
 /// The places that these times give.

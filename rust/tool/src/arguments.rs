@@ -84,7 +84,7 @@ pub static COMMANDS: [Command; 8] = [
         words: &["TREE"],
         summary: "the sheet as text: lot, times, x, y, and names where they are known",
         about: "The text can be taken up again by --sheet. Its first line names the rule, the number of lots and the \
-                frame, its second the columns.",
+                frame in grid cells, its second the columns.",
         options: &[&RULE, &SHEET, &LENGTHEN, &SHORTEN, &OUT],
     },
     Command {

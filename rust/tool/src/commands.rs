@@ -8,7 +8,7 @@ use crate::plan::Ask;
 use crate::sheetfile::{self, Saved, Words};
 use crate::stop::{misuse, refused, Stop, REFUSED};
 use crate::{completion, help, manual, outline};
-use lineage::{check, Rule, Sheet, Verdict};
+use lineage::{check, Frame, Rule, Sheet, Verdict};
 use std::ffi::OsStr;
 use std::io::Write;
 
@@ -46,7 +46,8 @@ fn opened(given: &Given, source: Source) -> Result<(Sheet, Vec<String>), Stop> {
         sheetfile::parse(&text).or_else(|e| misuse(format!("{file}:{e}")))?;
     let sheet = Sheet::from_lists(source.tree, rule, times, x, y).map_err(refused(&file))?;
     if sheet.frame() != frame {
-        return misuse(format!("{file}:1: the frame is {} {}", sheet.frame().width, sheet.frame().height));
+        let Frame { width, height } = sheet.frame();
+        return misuse(format!("{file}:1: the frame is {width} {height}, in grid cells"));
     }
     Ok((sheet, if source.names.is_empty() { names } else { source.names }))
 }

@@ -168,6 +168,6 @@ mod tests {
         }
         assert_eq!(kind(b"r"), "outline");
         assert_eq!(kind("Wurzel\n\tKind, größer\r\n".as_bytes()), "outline");
-        assert_eq!(kind(b"lineage sheet: rule steep, lots 1, frame 0 0\n"), "sheet");
+        assert_eq!(kind(b"lineage sheet: rule steep, lots 1, frame 1 1\n"), "sheet");
     }
 }

@@ -1,8 +1,8 @@
 //! Sheet files: a sheet as text, to be read by people and taken up again.
 //!
-//! The first line names the rule, the number of lots and the frame; the second names the columns, so that a later file
-//! may have more; then a line for each lot, in order. `name` is the last column where there is one; names may have
-//! spaces.
+//! The first line names the rule, the number of lots and the frame in grid cells; the second names the columns, so that
+//! a later file may have more; then a line for each lot, in order. `name` is the last column where there is one; names
+//! may have spaces.
 
 use lineage::{Frame, Rule, Sheet};
 use std::fmt::Write as _;
@@ -158,7 +158,7 @@ mod tests {
     use super::*;
     use lineage::Tree;
 
-    const FIVE: &str = "lineage sheet: rule steep, lots 5, frame 4 11\nlot times x y name\n0 1 0 0 the root\n\
+    const FIVE: &str = "lineage sheet: rule steep, lots 5, frame 5 12\nlot times x y name\n0 1 0 0 the root\n\
                         1 3 3 9\n2 1 1 4 b\n3 1 4 10 c d\n4 1 4 11 e\n";
 
     #[test]

@@ -6,9 +6,9 @@ use common::{bash, fails, file, five, lineage, out, place, tree};
 use std::os::unix::ffi::OsStringExt;
 use std::process::Command;
 
-const FRESH: &str = "lineage sheet: rule steep, lots 5, frame 2 5\nlot times x y\n\
+const FRESH: &str = "lineage sheet: rule steep, lots 5, frame 3 6\nlot times x y\n\
                      0 1 0 0\n1 1 1 3\n2 1 1 4\n3 1 2 4\n4 1 2 5\n";
-const STRETCHED: &str = "lineage sheet: rule steep, lots 5, frame 4 11\nlot times x y\n\
+const STRETCHED: &str = "lineage sheet: rule steep, lots 5, frame 5 12\nlot times x y\n\
                          0 1 0 0\n1 3 3 9\n2 1 1 4\n3 1 4 10\n4 1 4 11\n";
 
 #[test]
@@ -35,12 +35,12 @@ fn saved_sheets_are_taken_up_again() {
     let (status, message) = says("broken.sheet", &STRETCHED.replace("3 1 4 10", "3 1 4 9"));
     assert!(status == 1 && message.contains("broken.sheet") && message.contains("(8) at lot 3"), "{message}");
     let (status, message) =
-        says("other.sheet", "lineage sheet: rule steep, lots 1, frame 0 0\nlot times x y\n0 1 0 0\n");
+        says("other.sheet", "lineage sheet: rule steep, lots 1, frame 1 1\nlot times x y\n0 1 0 0\n");
     assert!(status == 1 && message.contains("(3)"), "{message}");
     let (status, message) = says("damaged.sheet", &STRETCHED.replace("3 1 4 10", "3 1 four 10"));
     assert!(status == 2 && message.contains("damaged.sheet:6:5: x is expected"), "{message}");
-    let (status, message) = says("frame.sheet", &STRETCHED.replace("frame 4 11", "frame 4 12"));
-    assert!(status == 2 && message.contains("frame.sheet:1:"), "{message}");
+    let (status, message) = says("frame.sheet", &STRETCHED.replace("frame 5 12", "frame 4 11"));
+    assert!(status == 2 && message.contains("frame.sheet:1: the frame is 5 12, in grid cells"), "{message}");
     assert!(says("no.sheet", "a\n").1.contains("no.sheet: is not a sheet file"));
     let (status, message) = fails(&["check", &saved]);
     assert!(status == 2 && message.contains("is a sheet file: name its tree here"), "{message}");

@@ -1,7 +1,8 @@
 -- At the large limits.
-use mathlib.Core.Path.{sym, subst}
+use mathlib.Core.Path.{subst⁻¹}
 use Rattle.table.specs.declared.Limits.{Limits}
 use Rattle.drawing.specs.FreshLaws.{Roomy, large-roomy}
+use Rattle.drawing.specs.Parts.{large-frames}
 use Rattle.drawing.proofs.Settling.{laid-at}
 use borrow.Author.Needs.{needs}
 use Rattle.drawing.proofs.layout.Statement.{statement}
@@ -13,9 +14,12 @@ returns c =
     let limits = laid .before .before .before .before .before in
     laid-at _ _ _ _ _ (limits .large-limits .ensures) (laid .layout-within .ensures)
 
+layout-within-requires : tie.Need-layout-within-requires
+layout-within-requires c κs =
+    let is = c .before .before .before .before .large-limits .ensures in
+    (subst⁻¹ (λ (L : Limits). Roomy L) is large-roomy, large-frames is)
+
 pub layout-spec : {M : Type 1} → statement M
 layout-spec = tie.close (tie.spec (λ c κs. search needs)
-    (λ c κs. subst (λ (L : Limits). Roomy L) (sym
-    (c .before .before .before .before .large-limits .ensures)) large-roomy)
-    (λ c. search needs) (λ c. search needs) (λ c. search needs) (λ c. search needs)
+    layout-within-requires (λ c. search needs) (λ c. search needs) (λ c. search needs) (λ c. search needs)
     returns)

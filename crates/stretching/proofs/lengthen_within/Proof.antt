@@ -1,8 +1,7 @@
 -- Refusals 1 to 10, then the limit, then the longer drawing.
-use native.Mathlib.Omega.{arith}
 use borrow.Author.Needs.{needs}
 use Rattle.stretching.proofs.Outcomes.{examined-of, lengthened-refused, lengthened-beyond, can-lengthen}
-use Rattle.stretching.proofs.Outcomes.{lengthened}
+use Rattle.stretching.proofs.Outcomes.{longer-framable, lengthened}
 use Rattle.stretching.proofs.lengthen_within.Statement.{statement}
 use Rattle.stretching.proofs.lengthen_within.Tie as tie
 
@@ -36,8 +35,17 @@ stretch-requires c κs =
     let near = c .before .before .before .before in
     let far = near .before in
     let exam = examined (told far) in
-    can-lengthen _ _ (exam .examine .ensures) _ (told far .enum-told .given .1) (omega (arith, called exam .good))
+    can-lengthen _ _ (exam .examine .ensures) _ (told far .enum-told .given .1) (called exam .pre)
     (far .too-far .ensures) (near .if1 .left)
+
+frame-of-requires : tie.Need-frame-of-requires
+frame-of-requires c κs =
+    let new = c .before .before .before .before .before .before .before .before in
+    let near = tested new in
+    let far = near .before in
+    let exam = examined (told far) in
+    longer-framable _ _ (exam .examine .ensures) _ (told far .enum-told .given .1) (called exam .pre)
+    (far .too-far .ensures) (near .if1 .left) (new .stretch .ensures)
 
 returns-2 : tie.Need-returns-2
 returns-2 c =
@@ -46,17 +54,18 @@ returns-2 c =
 
 returns-3 : tie.Need-returns-3
 returns-3 c =
-    let new = c .before .before .before .before .before .before in
+    let new = c .before .before .before .before .before .before .before .before .before in
     let near = tested new in
     let far = near .before in
     lengthened _ _ (examined (told far) .examine .ensures) _ (told far .enum-told .given .1) (far .too-far .ensures)
-    (near .if1 .left) (new .stretch .ensures)
+    (near .if1 .left) (new .stretch .ensures) (c .frame-of .ensures _)
 
 pub lengthen-within-spec : {M : Type 1} → statement M
 lengthen-within-spec = tie.close (tie.spec (λ c. search needs) (λ c κs. search needs) (λ c. search needs)
     (λ c. search needs)
     too-far-requires (λ c. search needs) (λ c. search needs) (λ c. search needs) (λ c. search needs)
     returns
-    stretch-requires (λ c. search needs) (λ c. search needs) (λ c. search needs) (λ c. search needs)
+    stretch-requires
+    frame-of-requires (λ c. search needs) (λ c. search needs) (λ c. search needs) (λ c. search needs)
     returns-2 (λ c. search needs) (λ c. search needs) (λ c. search needs) (λ c. search needs)
     returns-3)

@@ -1,9 +1,13 @@
 -- Refusals 1 to 10, then 12, then the shorter drawing.
 use native.Mathlib.Omega.{arith}
 use borrow.Author.Needs.{needs}
-use Rattle.stretching.proofs.Outcomes.{examined-of, shortened-refused, shortened-12, can-shorten, shortened}
+use Rattle.stretching.proofs.Outcomes.{examined-of, shortened-refused, shortened-12, can-shorten}
+use Rattle.stretching.proofs.Outcomes.{shorter-framable, shortened}
 use Rattle.stretching.proofs.shorten_within.Statement.{statement}
 use Rattle.stretching.proofs.shorten_within.Tie as tie
+
+abbrev called : tie.After-examine → tie.Start
+called c = c .before .before .before .before .before .before .before .before .before .before .before
 
 abbrev examined : tie.After-enum-told → tie.After-examine
 examined c = c .before .before .before .before
@@ -35,6 +39,15 @@ stretch-requires c κs =
     can-shorten _ _ (examined (told times) .examine .ensures) _ (told times .enum-told .given .1)
     (times .get .ensures .0) (more .if1 .left)
 
+frame-of-requires : tie.Need-frame-of-requires
+frame-of-requires c κs =
+    let new = c .before .before .before .before .before .before .before .before in
+    let more = tested new in
+    let times = more .before in
+    let exam = examined (told times) in
+    shorter-framable _ _ (exam .examine .ensures) _ (told times .enum-told .given .1) (called exam .pre)
+    (times .get .ensures .0) (more .if1 .left) (new .stretch .ensures)
+
 returns-2 : tie.Need-returns-2
 returns-2 c =
     let refused = c .before in
@@ -42,16 +55,17 @@ returns-2 c =
 
 returns-3 : tie.Need-returns-3
 returns-3 c =
-    let new = c .before .before .before .before .before .before in
+    let new = c .before .before .before .before .before .before .before .before .before in
     let more = tested new in
     let times = more .before in
     shortened _ _ (examined (told times) .examine .ensures) _ (told times .enum-told .given .1)
-    (times .get .ensures .0) (more .if1 .left) (new .stretch .ensures)
+    (times .get .ensures .0) (more .if1 .left) (new .stretch .ensures) (c .frame-of .ensures _)
 
 pub shorten-within-spec : {M : Type 1} → statement M
 shorten-within-spec = tie.close (tie.spec (λ c κs. search needs) (λ c. search needs) (λ c. search needs)
     get-requires (λ c. search needs) (λ c. search needs) (λ c. search needs) (λ c. search needs)
     returns
-    stretch-requires (λ c. search needs) (λ c. search needs) (λ c. search needs) (λ c. search needs)
+    stretch-requires
+    frame-of-requires (λ c. search needs) (λ c. search needs) (λ c. search needs) (λ c. search needs)
     returns-2 (λ c. search needs) (λ c. search needs) (λ c. search needs) (λ c. search needs)
     returns-3)

@@ -2,7 +2,6 @@
 use native.Mathlib.Omega.{arith}
 use borrow.Author.Needs.{needs}
 use Rattle.slopes.specs.Slopes.{acrossOf, upOf}
-use Rattle.drawing.specs.Drawing.{frame}
 use Rattle.stretching.proofs.Outcomes.{movable-at, times-fit, stretched-is}
 use Rattle.stretching.proofs.stretch.Statement.{statement}
 use Rattle.stretching.proofs.stretch.Tie as tie
@@ -63,16 +62,16 @@ put-requires c κs =
     (omega arith, omega arith)
 
 returns : tie.Need-returns
-unfolding frame
 returns c =
-    let put = c .before .before .before .before .before in
-    let changed = put .before in
+    let written = c .before .before in
+    let changed = written .before in
     let times = timed changed in
     let up = moved-y times in
     let across = moved-x (stepped-up up) in
-    stretched-is (sloped (stepped across) .edge-slope .ensures) (stepped across .product .ensures .0)
-    (stepped-up up .product2 .ensures .0) (times .get .ensures .0) (changed .changed .ensures) (put .put .ensures)
-    (across .move-subtree .ensures) (up .move-subtree2 .ensures) (c .frame-of .ensures)
+    let slope = sloped (stepped across) in
+    stretched-is (called slope .pre) (slope .edge-slope .ensures) (stepped across .product .ensures .0)
+    (stepped-up up .product2 .ensures .0) (times .get .ensures .0) (changed .changed .ensures) (written .put .ensures)
+    (across .move-subtree .ensures) (up .move-subtree2 .ensures)
 
 pub stretch-spec : {M : Type 1} → statement M
 stretch-spec = tie.close (tie.spec
@@ -80,5 +79,5 @@ stretch-spec = tie.close (tie.spec
     move-subtree-requires (λ c κs. search needs)
     move-subtree-requires-2 (λ c κs. search needs)
     changed-requires
-    put-requires (λ c κs. search needs) (λ c. search needs) (λ c. search needs) (λ c. search needs)
+    put-requires (λ c. search needs) (λ c. search needs) (λ c. search needs)
     returns)
