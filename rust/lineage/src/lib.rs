@@ -2,7 +2,8 @@
 //! direction makes every edge of the path between them rise.
 //!
 //! All the work is done by the proved static library; this crate lends it lists and names what it answers. Document
-//! 01's words are kept: a node is a *lot*, a drawing a *sheet*, the bounding box from the root, in grid cells, its *frame*.
+//! 01's words are kept: a node is a *lot*, a drawing a *sheet*, the bounding box from the root, in grid cells, its
+//! *frame*.
 //!
 //! The library is liblineage.a in the folder that the environment variable LINEAGE_LIB_DIR names, or else the
 //! repository's own, which the Rattle toolchain builds.
