@@ -2,7 +2,7 @@
 use mathlib.Core.Bool.{Bool}
 use mathlib.Core.List.{List}
 use mathlib.Core.Option.{none, some}
-use mathlib.Core.Path.{_≡_, sym, ap, subst, subst⁻¹, _∙_}
+use mathlib.Core.Path.{_≡_, sym, ap, subst, _∙_}
 use Prim.Native.Nat.{ℕ, _^_, _<_}
 use native.Mathlib.Omega.{arith}
 use lib.ListN.{length}
@@ -79,9 +79,8 @@ module _ {L : Limits} {P R : List ℕ} {s : Drawing} {W X : List ℕ} {r : Valid
 
   pub fresh-framable : (rule : Rule) {t : Drawing} → Roomy L → FramesFit L → r ≡ Accepted
       → t ≡ fresh P R rule → Framable (t .x) (t .y)
-  fresh-framable rule room low e is =
-      let a = accepting L P R _ (length W) (no-fault p e) in
-      subst⁻¹ (λ (u : Drawing). Framable (u .x) (u .y)) is (framable low (fresh-within room a rule))
+  fresh-framable rule room low e =
+      framable low (fresh-within room (accepting L P R _ (length W) (no-fault p e)) rule)
 
   pub laid-refused : (rule : Rule) {k z : ℕ} → r ≡ Refused k z
       → OnDrawing L P R s W s X (framed.Refused k z) (layout L P R rule s (length W))

@@ -8,7 +8,7 @@
 --   Blank P R rule s W     == and a fresh drawing has places below 2^32
 use mathlib.Core.List.{List}
 use mathlib.Core.Option.{Option, none}
-use mathlib.Core.Path.{_≡_, sym, ap, _∙_}
+use mathlib.Core.Path.{_≡_, sym, ap, subst⁻¹, _∙_}
 use Prim.Native.Nat.{ℕ, _+_, _^_, _<_}
 use native.Mathlib.Omega.{arith}
 use lib.ListN.{length}
@@ -83,9 +83,11 @@ sized {L} {P} {R} {s} {W} p e =
     let three = three-long (length P) s (accepting L P R _ (length W) (no-fault p e) .shape .others) in
     record { numbered = p .left e; times = three .0; x = three .1; y = three .2 }
 
-pub framable : {limit : ℕ} {P R : List ℕ} {rule : Rule} {s : Drawing} → limit + 1 < 2 ^ 32 → Drawn limit P R rule s
-    → Framable (s .x) (s .y)
-framable low d = (omega (arith, largest-within (d .x)), omega (arith, largest-within (d .y)))
+pub framable : {limit : ℕ} {P R : List ℕ} {rule : Rule} {s t : Drawing} → limit + 1 < 2 ^ 32 → Drawn limit P R rule s
+    → t ≡ s → Framable (t .x) (t .y)
+framable low d is =
+    subst⁻¹ (λ (u : Drawing). Framable (u .x) (u .y)) is
+    (omega (arith, largest-within (d .x)), omega (arith, largest-within (d .y)))
 
 pub large-frames : {L : Limits} → L ≡ large → FramesFit L
 large-frames e = omega (arith, ap (λ (L : Limits). L .place) e)

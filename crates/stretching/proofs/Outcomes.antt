@@ -21,7 +21,7 @@ use Rattle.drawing.specs.declared.Framed.{Framed}
 use Rattle.drawing.specs.declared.Framed.the-variants as framed
 use Rattle.drawing.specs.Drawing.{Drawing, lent, frame, redrawn, OnDrawing}
 use Rattle.drawing.specs.DrawingLaws.{Coordinate, Drawn, drawn-times, same-drawing}
-use Rattle.drawing.specs.Parts.{Framable, FramesFit, fault, no-fault, framable}
+use Rattle.drawing.specs.Parts.{FramesFit, fault, no-fault}
 use Rattle.stretching.specs.CallLaws.{Examined, examined, beyond-no, beyond-x, beyond-y, no-beyond}
 use Rattle.stretching.specs.Parts.{by, Examining, Passes, Movable, Stretchable}
 use Rattle.stretching.specs.Stretching.{moved, stretched, beyond, stretchFault, lengthen, shorten}
@@ -192,7 +192,7 @@ module _ {L : Limits} {P R : List ℕ} (rule : Rule) {s : Drawing} {W : List ℕ
           (refuse-no _ 12 v (lt-leb (getD (s .times) v 0) c (omega arith)))
 
       -- the new drawing is one, within the limits
-      longer-drawn : {q : Bool} → q ≡ beyond (L .place) (length P) (longer P R rule s v c) → q ≡ false
+      pub longer-drawn : {q : Bool} → q ≡ beyond (L .place) (length P) (longer P R rule s v c) → q ≡ false
           → Drawn (L .place) P R rule (longer P R rule s v c)
       longer-drawn e f =
           let x = examined-of ok in
@@ -200,24 +200,12 @@ module _ {L : Limits} {P R : List ℕ} (rule : Rule) {s : Drawing} {W : List ℕ
           (longer-stretch (x .inspected .drawn) (x .inside)) (x .inspected .drawn)
           (beyond-no (L .place) (length P) (longer P R rule s v c) (sym e ∙ f))
 
-      shorter-drawn : {n : ℕ} → n ≡ getD (s .times) v 0 → c < n → Drawn (L .place) P R rule (shorter P R rule s v c)
+      pub shorter-drawn : {n : ℕ} → n ≡ getD (s .times) v 0 → c < n → Drawn (L .place) P R rule (shorter P R rule s v c)
       shorter-drawn e h =
           let x = examined-of ok in
           unstretch-drawn (x .inspected .accepting .tree) (x .above) (x .inside)
           (shorter-stretch (x .inspected .accepting .tree) (x .above) (x .inside) (x .inspected .drawn) (omega arith))
           (x .inspected .drawn) (omega arith)
-
-      -- so it has a frame
-      module _ (low : FramesFit L) {t : Drawing} where
-        pub longer-framable : {q : Bool} → q ≡ beyond (L .place) (length P) (longer P R rule s v c) → q ≡ false
-            → t ≡ longer P R rule s v c → Framable (t .x) (t .y)
-        longer-framable e f is =
-            subst⁻¹ (λ (u : Drawing). Framable (u .x) (u .y)) is (framable low (longer-drawn e f))
-
-        pub shorter-framable : {n : ℕ} → n ≡ getD (s .times) v 0 → c < n → t ≡ shorter P R rule s v c
-            → Framable (t .x) (t .y)
-        shorter-framable e h is =
-            subst⁻¹ (λ (u : Drawing). Framable (u .x) (u .y)) is (framable low (shorter-drawn e h))
 
       -- within the limit, the longer drawing has times and places that fit
       pub can-lengthen : {q : Bool} → FramesFit L → q ≡ beyond (L .place) (length P) (longer P R rule s v c)

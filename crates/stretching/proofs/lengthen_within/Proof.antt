@@ -1,7 +1,8 @@
 -- Refusals 1 to 10, then the limit, then the longer drawing.
 use borrow.Author.Needs.{needs}
+use Rattle.drawing.specs.Parts.{framable}
 use Rattle.stretching.proofs.Outcomes.{examined-of, lengthened-refused, lengthened-beyond, can-lengthen}
-use Rattle.stretching.proofs.Outcomes.{longer-framable, lengthened}
+use Rattle.stretching.proofs.Outcomes.{longer-drawn, lengthened}
 use Rattle.stretching.proofs.lengthen_within.Statement.{statement}
 use Rattle.stretching.proofs.lengthen_within.Tie as tie
 
@@ -44,8 +45,10 @@ frame-of-requires c κs =
     let near = tested new in
     let far = near .before in
     let exam = examined (told far) in
-    longer-framable _ _ (exam .examine .ensures) _ (told far .enum-told .given .1) (called exam .pre)
-    (far .too-far .ensures) (near .if1 .left) (new .stretch .ensures)
+    framable (called exam .pre)
+    (longer-drawn _ _ (exam .examine .ensures) _ (told far .enum-told .given .1) (far .too-far .ensures)
+    (near .if1 .left))
+    (new .stretch .ensures)
 
 returns-2 : tie.Need-returns-2
 returns-2 c =

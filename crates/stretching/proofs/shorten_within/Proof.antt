@@ -1,8 +1,9 @@
 -- Refusals 1 to 10, then 12, then the shorter drawing.
 use native.Mathlib.Omega.{arith}
 use borrow.Author.Needs.{needs}
+use Rattle.drawing.specs.Parts.{framable}
 use Rattle.stretching.proofs.Outcomes.{examined-of, shortened-refused, shortened-12, can-shorten}
-use Rattle.stretching.proofs.Outcomes.{shorter-framable, shortened}
+use Rattle.stretching.proofs.Outcomes.{shorter-drawn, shortened}
 use Rattle.stretching.proofs.shorten_within.Statement.{statement}
 use Rattle.stretching.proofs.shorten_within.Tie as tie
 
@@ -45,8 +46,10 @@ frame-of-requires c κs =
     let more = tested new in
     let times = more .before in
     let exam = examined (told times) in
-    shorter-framable _ _ (exam .examine .ensures) _ (told times .enum-told .given .1) (called exam .pre)
-    (times .get .ensures .0) (more .if1 .left) (new .stretch .ensures)
+    framable (called exam .pre)
+    (shorter-drawn _ _ (exam .examine .ensures) _ (told times .enum-told .given .1) (times .get .ensures .0)
+    (more .if1 .left))
+    (new .stretch .ensures)
 
 returns-2 : tie.Need-returns-2
 returns-2 c =
