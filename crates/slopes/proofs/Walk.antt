@@ -25,7 +25,7 @@ walk-start k t j h e =
     record {
       within = omega arith;
       inside = omega arith;
-      leads = descent-is k t j h e;
+      leads = descent-is k t j flat upright h e;
       small = λ f part. let none : k - 1 - (k - 1) ≡ 0 = omega arith in rw none (omega arith);
     }
 
@@ -38,7 +38,7 @@ module _ {k t j : ℕ} {low high : Slope} {bit : ℕ} (w : Walk k t j low high b
 
   -- a turn to neighbours that lead on, whose parts are at most twice as large
   turned : (low′ high′ : Slope) → t < bit
-      → ((h : ℕ) → bit ≡ suc h + t → descent (suc h) t j low high ≡ descent h t j low′ high′)
+      → descent (bit - t) t j low high ≡ descent (bit - 1 - t) t j low′ high′
       → ((f : Slope → ℕ) → Part f → f low′ + f high′ ≤ 2 * (f low + f high)) → Walk k t j low′ high′ (bit - 1)
   turned low′ high′ more on grown =
       let next : k - 1 - (bit - 1) ≡ suc (k - 1 - bit) = omega arith in
@@ -46,7 +46,7 @@ module _ {k t j : ℕ} {low high : Slope} {bit : ℕ} (w : Walk k t j low high b
       record {
         within = omega arith;
         inside = omega arith;
-        leads = w .leads ∙ ap (λ i. descent i t j low high) (omega arith) ∙ on (bit - 1 - t) (omega arith);
+        leads = w .leads ∙ on;
         small = λ f part. omega (arith, grown f part, w .small f part);
       }
 
@@ -54,13 +54,13 @@ module _ {k t j : ℕ} {low high : Slope} {bit : ℕ} (w : Walk k t j low high b
   pub walk-right : t < bit → bitAnd (j / 2 ^ bit) 1 ≡ 1 → Walk k t j (low ⊕ high) high (bit - 1)
   walk-right more one =
       turned (low ⊕ high) high more
-      (λ h e. descent-right h t j low high (rw (← e, ← and-mask (j / 2 ^ bit) 1) one))
+      (descent-right bit t j low high more (rw (← and-mask (j / 2 ^ bit) 1) one))
       (λ f part. omega (arith, part .adds low high))
 
   pub walk-left : t < bit → (bitAnd (j / 2 ^ bit) 1 ≡ 1 → ⊥) → Walk k t j low (low ⊕ high) (bit - 1)
   walk-left more other =
       turned low (low ⊕ high) more
-      (λ h e. descent-left h t j low high (rw (← e, ← and-mask (j / 2 ^ bit) 1) other))
+      (descent-left bit t j low high more (rw (← and-mask (j / 2 ^ bit) 1) other))
       (λ f part. omega (arith, part .adds low high))
 
   -- no turn is left

@@ -5,6 +5,9 @@
 --   descent h t j l r     == the fraction to which h turns lead from l ⊕ r: the h bits of j above bit t, highest first,
 --                            are the turns, 1 to the right and 0 to the left
 --   Ends j t              == j ends in t zeros, with a 1 above them
+--   by-position           == by induction: what holds of the middle of t + 1 levels, and of k + 1 levels where it holds
+--                            of their half, the k levels on one side of the middle, holds of every position that ends
+--                            in t zeros
 use mathlib.Core.Bool.{cond}
 use mathlib.Core.List.{List·Memᴰ·head, Memᴰ·append-left, Memᴰ·append-right}
 use mathlib.Core.Path.{_≡_, refl, sym, ap, subst⁻¹, _∙_}
@@ -17,8 +20,8 @@ use lib.Count.{trailingZeros, under}
 use lib.Dec.{eqb}
 use lib.ListN.{getD}
 use lib.Pow.{pow-pos, pow-mono, mod-pow-add, mod-mod-pow}
-use borrow.Author.Tests.{eqb-true, eqb-false, eq-eqb, ne-eqb}
-use Rattle.laws.specs.Tests.{by-test, by-lt}
+use borrow.Author.Tests.{eq-eqb, ne-eqb}
+use Rattle.laws.specs.Tests.{by-test, by-eq, by-lt}
 use Rattle.slopes.specs.declared.Slope.{Slope}
 use Rattle.slopes.specs.LevelLaws.{_∈_, levels-left, levels-middle, levels-right, level}
 use Rattle.slopes.specs.Slopes.{_⊕_, levels, flat, upright, fractionAt}
@@ -37,7 +40,7 @@ Ends j t = j % 2 ^ suc t ≡ 2 ^ t
 -- Bits
 
 -- the lowest m + 1 bits are bit m and the lowest m
-pub bits-more : (j m : ℕ) → j % 2 ^ suc m ≡ bitOf j m * 2 ^ m + j % 2 ^ m
+bits-more : (j m : ℕ) → j % 2 ^ suc m ≡ bitOf j m * 2 ^ m + j % 2 ^ m
 bits-more j m = ap (λ k. j % 2 ^ k) (sym (one-add m)) ∙ mod-pow-add j 1 m
 
 -- the trailing zeros of a number above 0, written in w bits
@@ -55,7 +58,7 @@ trailing-ends (suc w) j h g = go (j % 2) refl (λ e. trailing-ends w (j / 2) (om
     go (suc b) e half = omega arith
 
 -- more of the lowest bits than the zeros that end the number are not all 0
-pub ends-positive : (j t m : ℕ) → Ends j t → t < m → 1 ≤ j % 2 ^ m
+ends-positive : (j t m : ℕ) → Ends j t → t < m → 1 ≤ j % 2 ^ m
 ends-positive j t m e h =
     let long : m - suc t + suc t ≡ m = omega arith in
     let low : j % 2 ^ m % 2 ^ suc t ≡ j % 2 ^ suc t = rw long at (mod-mod-pow j (m - suc t) (suc t)) in
@@ -66,46 +69,71 @@ ends-below j t k e h =
     by-lt t k (λ l. l) (λ l. absurd (let p : 2 ^ k ≤ 2 ^ t = pow-mono l in omega (arith, mod-le j (2 ^ suc t))))
 
 ------------------------------------------------------------------------
+-- Positions
+
+-- the middle of t + 1 levels is the position 2^t, and bit k of a position of k + 1 levels says in which half it stands
+module _ (t j : ℕ) (Q : ℕ → ℕ → Type 0) (q : Ends j t) (middle : Q (suc t) (2 ^ t))
+    (right : (k p : ℕ) → t < k → 1 ≤ p → p < 2 ^ k → bitOf j k ≡ 1 → Q k p → Q (suc k) (2 ^ k + p))
+    (left : (k p : ℕ) → t < k → 1 ≤ p → p < 2 ^ k → (bitOf j k ≡ 1 → ⊥) → Q k p → Q (suc k) p) where
+  -- the position in the last h + t + 1 bits of j
+  in-bits : (h k : ℕ) → k ≡ suc h + t → Q k (j % 2 ^ k)
+  in-bits zero k e =
+      let same : k ≡ suc t = omega arith in
+      subst⁻¹ (λ i. Q i (j % 2 ^ i)) same (subst⁻¹ (Q (suc t)) q middle)
+  in-bits (suc h) zero e = absurd (omega arith)
+  in-bits (suc h) (suc k) e =
+      let rest = j % 2 ^ k in
+      let more : t < k = omega arith in
+      let some : 1 ≤ rest = ends-positive j t k q more in
+      let less : rest < 2 ^ k = mod-lt j (pow-pos k) in
+      let on = in-bits h k (omega arith) in
+      subst⁻¹ (Q (suc k)) (bits-more j k)
+      (by-eq (bitOf j k) 1
+      (λ one. let at : bitOf j k * 2 ^ k + rest ≡ 2 ^ k + rest = rw one (omega arith) in
+      rw at (right k rest more some less one on))
+      (λ other. let none : bitOf j k ≡ 0 = omega arith in
+      let at : bitOf j k * 2 ^ k + rest ≡ rest = rw none (omega arith) in
+      rw at (left k rest more some less other on)))
+
+  pub by-position : (k : ℕ) → j < 2 ^ k → Q k j
+  by-position k h =
+      let low : j % 2 ^ k ≡ j = mod-eq-of-lt h in
+      rw low at (in-bits (k - 1 - t) k (omega (arith, ends-below j t k q h)))
+
+------------------------------------------------------------------------
 -- The descent
 
-pub descent-right : (h t j : ℕ) (l r : Slope) → bitOf j (suc h + t) ≡ 1
-    → descent (suc h) t j l r ≡ descent h t j (l ⊕ r) r
-unfolding descent
-descent-right h t j l r e = rw (eq-eqb (bitOf j (suc h + t)) 1 e)
+-- the turn at bit b
+module _ (b t j : ℕ) (l r : Slope) (more : t < b) where
+  turn : descent (b - t) t j l r
+      ≡ cond (eqb (bitOf j b) 1) (descent (b - 1 - t) t j (l ⊕ r) r) (descent (b - 1 - t) t j l (l ⊕ r))
+  unfolding descent
+  turn =
+      let next : b - t ≡ suc (b - 1 - t) = omega arith in
+      let at : suc (b - 1 - t) + t ≡ b = omega arith in
+      rw next (rw at)
 
-pub descent-left : (h t j : ℕ) (l r : Slope) → (bitOf j (suc h + t) ≡ 1 → ⊥)
-    → descent (suc h) t j l r ≡ descent h t j l (l ⊕ r)
-unfolding descent
-descent-left h t j l r e = rw (ne-eqb (bitOf j (suc h + t)) 1 e)
+  pub descent-right : bitOf j b ≡ 1 → descent (b - t) t j l r ≡ descent (b - 1 - t) t j (l ⊕ r) r
+  descent-right e = turn ∙ rw (eq-eqb (bitOf j b) 1 e)
 
--- it leads to the position in the last h + t + 1 bits of j
-descent-place : (m h t j : ℕ) (l r : Slope) → m ≡ h + t → Ends j t
-    → getD (levels (suc m) l r) (j % 2 ^ suc m - 1) flat ≡ descent h t j l r
-unfolding descent
-descent-place m zero t j l r e q =
-    let same : m ≡ t = omega arith in
-    subst⁻¹ (λ k. getD (levels (suc k) l r) (j % 2 ^ suc k - 1) flat ≡ l ⊕ r) same (rw q (levels-middle t l r flat))
-descent-place zero (suc h) t j l r e q = absurd (omega arith)
-descent-place (suc m) (suc h) t j l r e q =
-    let rest = j % 2 ^ suc m in
-    let some : 1 ≤ rest = ends-positive j t (suc m) q (omega arith) in
-    let less : rest < 2 ^ suc m = mod-lt j (pow-pos (suc m)) in
-    rw (← e, bits-more j (suc m))
-    (by-test (eqb (bitOf j (suc m)) 1)
-    (λ b. let one = eqb-true (bitOf j (suc m)) 1 b in
-    let at : bitOf j (suc m) * 2 ^ suc m + rest - 1 ≡ 2 ^ suc m + rest - 1 = rw one (omega arith) in
-    rw (b, at) (levels-right (suc m) l r flat rest some ∙ descent-place m h t j (l ⊕ r) r (omega arith) q))
-    (λ b. let none : bitOf j (suc m) ≡ 0 = omega (arith, eqb-false (bitOf j (suc m)) 1 b) in
-    let at : bitOf j (suc m) * 2 ^ suc m + rest - 1 ≡ rest - 1 = rw none (omega arith) in
-    rw (b, at) (levels-left (suc m) l r flat rest some less ∙ descent-place m h t j l (l ⊕ r) (omega arith) q)))
+  pub descent-left : (bitOf j b ≡ 1 → ⊥) → descent (b - t) t j l r ≡ descent (b - 1 - t) t j l (l ⊕ r)
+  descent-left e = turn ∙ rw (ne-eqb (bitOf j b) 1 e)
 
--- all of j's bits among k: the j-th fraction of k levels
-pub descent-is : (k t j : ℕ) → j < 2 ^ k → Ends j t → fractionAt k j ≡ descent (k - 1 - t) t j flat upright
-descent-is zero t j h q = absurd (omega (arith, ends-below j t zero q h))
-descent-is (suc k) t j h q =
-    let turns : suc k - 1 - t ≡ k - t = omega arith in
-    let low : j % 2 ^ suc k ≡ j = mod-eq-of-lt h in
-    rw turns (rw low at (descent-place k (k - t) t j flat upright (omega (arith, ends-below j t (suc k) q h)) q))
+-- it leads to the j-th of k levels, if they hold j
+pub descent-is : (k t j : ℕ) (l r : Slope) → j < 2 ^ k → Ends j t
+    → getD (levels k l r) (j - 1) flat ≡ descent (k - 1 - t) t j l r
+unfolding descent
+descent-is k t j l r h q =
+    by-position t j (λ i p. (l r : Slope) → getD (levels i l r) (p - 1) flat ≡ descent (i - 1 - t) t j l r) q
+    (λ l r. let none : suc t - 1 - t ≡ 0 = omega arith in rw none (levels-middle t l r flat))
+    (λ i p more some less one on l r. rw (last i)
+    (levels-right i l r flat p some ∙ on (l ⊕ r) r ∙ sym (descent-right i t j l r more one)))
+    (λ i p more some less other on l r. rw (last i)
+    (levels-left i l r flat p some less ∙ on l (l ⊕ r) ∙ sym (descent-left i t j l r more other)))
+    k h l r
+  where
+    last : (i : ℕ) → suc i - 1 ≡ i
+    last i = omega arith
 
 -- after h turns it is in level h + 1
 pub descent-level : (h t j : ℕ) (l r : Slope) → descent h t j l r ∈ level h l r
@@ -124,7 +152,7 @@ module _ (w k j : ℕ) (fits : k ≤ w) (some : 1 ≤ j) (inside : j < 2 ^ k) wh
   ends = let long : 2 ^ k ≤ 2 ^ w = pow-mono fits in trailing-ends w j some (omega arith)
 
   pub position-descent : fractionAt k j ≡ descent (k - 1 - trailingZeros w j) (trailingZeros w j) j flat upright
-  position-descent = descent-is k (trailingZeros w j) j inside ends
+  position-descent = descent-is k (trailingZeros w j) j flat upright inside ends
 
   pub position-level : fractionAt k j ∈ level (k - 1 - trailingZeros w j) flat upright
   position-level = rw position-descent (descent-level (k - 1 - trailingZeros w j) (trailingZeros w j) j flat upright)

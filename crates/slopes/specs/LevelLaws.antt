@@ -103,13 +103,29 @@ module _ (r d : Slope) where
 ------------------------------------------------------------------------
 -- Number and place
 
+-- entries up to position q - 1, counted from 1, one at q, and others after it
+module _ {A : Type 0} (before : List A) (m : A) (after : List A) (q : ℕ) (long : length before + 1 ≡ q) where
+  joined-length : length after + 1 ≡ q → length (before ++ (m ∷ after)) + 1 ≡ q * 2
+  joined-length same = rw (length-append before (m ∷ after)) (omega arith)
+
+  joined-left : (d : A) (p : ℕ) → 1 ≤ p → p < q → getD (before ++ (m ∷ after)) (p - 1) d ≡ getD before (p - 1) d
+  joined-left d p h g = List·getD-append before (m ∷ after) d (p - 1) (omega arith)
+
+  joined-middle : (d : A) → getD (before ++ (m ∷ after)) (q - 1) d ≡ m
+  joined-middle d = getD-at before m after d (q - 1) (omega arith)
+
+  joined-right : (d : A) (p : ℕ) → 1 ≤ p → getD (before ++ (m ∷ after)) (q + p - 1) d ≡ getD after (p - 1) d
+  joined-right d p h =
+      let e : q + p - 1 ≡ length before + suc (p - 1) = omega arith in
+      rw e (getD-append-add before (m ∷ after) (suc (p - 1)) d)
+
 pub levels-length : (k : ℕ) (l r : Slope) → length (levels k l r) + 1 ≡ 2 ^ k
 unfolding levels
 levels-length zero l r = refl
 levels-length (suc k) l r =
-    let a = levels-length k l (l ⊕ r) in
-    let b = levels-length k (l ⊕ r) r in
-    rw (length-append (levels k l (l ⊕ r)) ((l ⊕ r) ∷ levels k (l ⊕ r) r), pow-suc) (omega arith)
+    rw pow-suc
+    (joined-length (levels k l (l ⊕ r)) (l ⊕ r) (levels k (l ⊕ r) r) (2 ^ k) (levels-length k l (l ⊕ r))
+    (levels-length k (l ⊕ r) r))
 
 pub level-length : (i : ℕ) (l r : Slope) → length (level i l r) ≡ 2 ^ i
 unfolding level
@@ -123,23 +139,19 @@ level-length (suc i) l r =
 pub levels-left : (k : ℕ) (l r d : Slope) (p : ℕ) → 1 ≤ p → p < 2 ^ k
     → getD (levels (suc k) l r) (p - 1) d ≡ getD (levels k l (l ⊕ r)) (p - 1) d
 unfolding levels
-levels-left k l r d p h g =
-    List·getD-append (levels k l (l ⊕ r)) ((l ⊕ r) ∷ levels k (l ⊕ r) r) d (p - 1)
-    (omega (arith, levels-length k l (l ⊕ r)))
+levels-left k l r d =
+    joined-left (levels k l (l ⊕ r)) (l ⊕ r) (levels k (l ⊕ r) r) (2 ^ k) (levels-length k l (l ⊕ r)) d
 
 pub levels-middle : (k : ℕ) (l r d : Slope) → getD (levels (suc k) l r) (2 ^ k - 1) d ≡ l ⊕ r
 unfolding levels
 levels-middle k l r d =
-    getD-at (levels k l (l ⊕ r)) (l ⊕ r) (levels k (l ⊕ r) r) d (2 ^ k - 1) (omega (arith, levels-length k l (l ⊕ r)))
+    joined-middle (levels k l (l ⊕ r)) (l ⊕ r) (levels k (l ⊕ r) r) (2 ^ k) (levels-length k l (l ⊕ r)) d
 
 pub levels-right : (k : ℕ) (l r d : Slope) (p : ℕ) → 1 ≤ p
     → getD (levels (suc k) l r) (2 ^ k + p - 1) d ≡ getD (levels k (l ⊕ r) r) (p - 1) d
 unfolding levels
-levels-right k l r d p h =
-    let before = levels k l (l ⊕ r) in
-    let after = levels k (l ⊕ r) r in
-    let e : 2 ^ k + p - 1 ≡ length before + suc (p - 1) = omega (arith, levels-length k l (l ⊕ r)) in
-    rw e (getD-append-add before ((l ⊕ r) ∷ after) (suc (p - 1)) d)
+levels-right k l r d =
+    joined-right (levels k l (l ⊕ r)) (l ⊕ r) (levels k (l ⊕ r) r) (2 ^ k) (levels-length k l (l ⊕ r)) d
 
 ------------------------------------------------------------------------
 -- Which fractions

@@ -8,19 +8,19 @@
 --   multiple j              == that 2 t + 1 (in a Farey sequence: the index of a fraction)
 --   Neighbours rule n j s t == s is the j-th slope and t the next
 use mathlib.Core.List.{List, [], _∷_}
-use mathlib.Core.Path.{_≡_, refl, sym, ap, ap₂, subst⁻¹, _∙_}
-use Prim.Native.Nat.{ℕ, zero, suc, _+_, _-_, _*_, _^_, _%_, _≤_, _<_}
-use native.Mathlib.Nat.{mod-eq-of-lt, mod-lt, pow-suc}
+use mathlib.Core.Path.{_≡_, refl, sym, ap, ap₂, _∙_}
+use Prim.Native.Nat.{ℕ, zero, suc, _+_, _-_, _*_, _^_, _≤_, _<_}
+use native.Mathlib.Nat.{pow-suc}
 use native.Mathlib.Omega.{arith}
 use lib.Count.{trailingZeros}
 use lib.ListN.{length, getD, List·getD-append, List·getD-eq-default}
 use lib.Pow.{pow-pos}
 use lib.Seq.{getD-at, getD-append-add}
-use Rattle.laws.specs.Tests.{by-lt, by-eq}
+use Rattle.laws.specs.Tests.{by-lt}
 use Rattle.slopes.specs.declared.Rule.{Rule}
 use Rattle.slopes.specs.declared.Rule.the-variants.{Steep, Balanced}
 use Rattle.slopes.specs.declared.Slope.{Slope}
-use Rattle.slopes.specs.Descent.{bitOf, Ends, bits-more, ends-positive, ends-below, trailing-ends}
+use Rattle.slopes.specs.Descent.{Ends, trailing-ends, by-position}
 use Rattle.slopes.specs.LevelLaws.{levels-length, Part, across-part, up-part}
 use Rattle.slopes.specs.SlopeLaws.{levelsFor-enough, slope-size}
 use Rattle.slopes.specs.Slopes.{acrossOf, upOf, _⊕_, levels, flat, upright, fractionAt, levelsFor}
@@ -106,30 +106,13 @@ module _ (f : Slope → ℕ) (part : Part f) where
       let after : suc (2 ^ k + j) ≡ 2 ^ k + suc j = omega arith in
       rw (before, after, bordered-right k l r (j - 1), bordered-right k l r (suc j), bordered-right k l r j) s
 
-  -- the position in the last h + t + 1 bits of j
-  summed-place : (m h t j : ℕ) (l r : Slope) → m ≡ h + t → Ends j t → Summed (suc m) l r t (j % 2 ^ suc m)
-  summed-place m zero t j l r e q =
-      let same : m ≡ t = omega arith in
-      subst⁻¹ (λ k. Summed (suc k) l r t (j % 2 ^ suc k)) same
-      (subst⁻¹ (λ p. Summed (suc t) l r t p) q (summed-middle t l r))
-  summed-place zero (suc h) t j l r e q = absurd (omega arith)
-  summed-place (suc m) (suc h) t j l r e q =
-      let rest = j % 2 ^ suc m in
-      let some : 1 ≤ rest = ends-positive j t (suc m) q (omega arith) in
-      let less : rest < 2 ^ suc m = mod-lt j (pow-pos (suc m)) in
-      subst⁻¹ (λ p. Summed (suc (suc m)) l r t p) (bits-more j (suc m))
-      (by-eq (bitOf j (suc m)) 1
-      (λ one. let at : bitOf j (suc m) * 2 ^ suc m + rest ≡ 2 ^ suc m + rest = rw one (omega arith) in
-      rw at (summed-right (suc m) l r t rest some (summed-place m h t j (l ⊕ r) r (omega arith) q)))
-      (λ other. let none : bitOf j (suc m) ≡ 0 = omega arith in
-      let at : bitOf j (suc m) * 2 ^ suc m + rest ≡ rest = rw none (omega arith) in
-      rw at (summed-left (suc m) l r t rest less (summed-place m h t j l (l ⊕ r) (omega arith) q))))
-
   pub neighbours-sum : (k t j : ℕ) (l r : Slope) → Ends j t → j < 2 ^ k → Summed k l r t j
-  neighbours-sum zero t j l r q h = absurd (omega (arith, ends-below j t zero q h))
-  neighbours-sum (suc k) t j l r q h =
-      let low : j % 2 ^ suc k ≡ j = mod-eq-of-lt h in
-      rw low at (summed-place k (k - t) t j l r (omega (arith, ends-below j t (suc k) q h)) q)
+  neighbours-sum k t j l r q h =
+      by-position t j (λ i p. (l r : Slope) → Summed i l r t p) q
+      (summed-middle t)
+      (λ i p more some less one on l r. summed-right i l r t p some (on (l ⊕ r) r))
+      (λ i p more some less other on l r. summed-left i l r t p less (on l (l ⊕ r)))
+      k h l r
 
 ------------------------------------------------------------------------
 -- Both rules

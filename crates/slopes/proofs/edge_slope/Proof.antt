@@ -1,5 +1,5 @@
 -- The work list holds v's post number, and the rule's slope at that number is the edge's.
-use mathlib.Core.Path.{ap, _∙_}
+use mathlib.Core.Path.{_∙_}
 use native.Mathlib.Omega.{arith}
 use borrow.Author.Needs.{needs}
 use Rattle.table.specs.Numbering.{edge-number}
