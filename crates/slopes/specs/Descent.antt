@@ -1,5 +1,5 @@
--- A position's fraction by one descent: how many turns by the zeros that end the position in base two, and each turn by
--- one of its bits.
+-- A position's fraction by one descent, and its level: how many turns by the zeros that end the position in base two,
+-- and each turn by one of its bits.
 --
 --   bitOf j b             == the bit of j with the weight 2^b
 --   descent h t j l r     == the fraction to which h turns lead from l ⊕ r: the h bits of j above bit t, highest first,
@@ -23,8 +23,9 @@ use lib.Pow.{pow-pos, pow-mono, mod-pow-add, mod-mod-pow}
 use borrow.Author.Tests.{eq-eqb, ne-eqb}
 use Rattle.laws.specs.Tests.{by-test, by-eq, by-lt}
 use Rattle.slopes.specs.declared.Slope.{Slope}
-use Rattle.slopes.specs.LevelLaws.{_∈_, levels-left, levels-middle, levels-right, level}
-use Rattle.slopes.specs.Slopes.{_⊕_, levels, flat, upright, fractionAt}
+use Rattle.slopes.specs.LevelLaws.{_∈_, level, one-level, levels-left, levels-middle, levels-right}
+use Rattle.slopes.specs.LevelLaws.{numbers-left, numbers-middle, numbers-right}
+use Rattle.slopes.specs.Slopes.{_⊕_, levels, levelNumbers, flat, upright, fractionAt, levelAt}
 
 abbrev pub bitOf : ℕ → ℕ → ℕ
 bitOf j b = j / 2 ^ b % 2
@@ -145,14 +146,43 @@ descent-level (suc h) t j l r =
     (λ e. rw e (Memᴰ·append-left (level h (l ⊕ r) r) (descent-level h t j l (l ⊕ r))))
 
 ------------------------------------------------------------------------
--- A position's fraction, from its trailing zeros in a word of w bits
+-- A position's fraction and level, from its trailing zeros in a word of w bits
+
+-- the levels below a position's own are as many as the zeros that end it
+level-ends : (k t j : ℕ) → j < 2 ^ k → Ends j t → levelAt k j + suc t ≡ 1 + k
+level-ends k t j h q =
+    by-position t j (λ k p. (i : ℕ) → getD (levelNumbers k i) (p - 1) 0 + suc t ≡ i + k) q
+    (λ i. rw (numbers-middle t i 0))
+    (λ k p more some less one on i. rw (numbers-right k i 0 p some) (omega (arith, on (suc i))))
+    (λ k p more some less other on i. rw (numbers-left k i 0 p some less) (omega (arith, on (suc i))))
+    k h _
 
 module _ (w k j : ℕ) (fits : k ≤ w) (some : 1 ≤ j) (inside : j < 2 ^ k) where
   ends : Ends j (trailingZeros w j)
   ends = let long : 2 ^ k ≤ 2 ^ w = pow-mono fits in trailing-ends w j some (omega arith)
 
+  pub zeros-below : trailingZeros w j < k
+  zeros-below = ends-below j (trailingZeros w j) k ends inside
+
   pub position-descent : fractionAt k j ≡ descent (k - 1 - trailingZeros w j) (trailingZeros w j) j flat upright
   position-descent = descent-is k (trailingZeros w j) j flat upright inside ends
 
-  pub position-level : fractionAt k j ∈ level (k - 1 - trailingZeros w j) flat upright
-  position-level = rw position-descent (descent-level (k - 1 - trailingZeros w j) (trailingZeros w j) j flat upright)
+  pub position-level : levelAt k j ≡ k - trailingZeros w j
+  position-level = omega (arith, level-ends k (trailingZeros w j) j inside ends)
+
+------------------------------------------------------------------------
+-- A position's level holds its fraction
+
+module _ (k j : ℕ) (some : 1 ≤ j) (inside : j < 2 ^ k) where
+  pub in-its-level : fractionAt k j ∈ level (levelAt k j - 1) flat upright
+  in-its-level =
+      let t = trailingZeros k j in
+      let turns : levelAt k j - 1 ≡ k - 1 - t = omega (arith, position-level k k j (omega arith) some inside) in
+      rw (turns, position-descent k k j (omega arith) some inside) (descent-level (k - 1 - t) t j flat upright)
+
+  -- and no other does
+  pub level-is : (i : ℕ) → fractionAt k j ∈ level i flat upright → levelAt k j ≡ suc i
+  level-is i m =
+      let same = one-level (levelAt k j - 1) i flat upright (fractionAt k j) refl in-its-level m in
+      let level = position-level k k j (omega arith) some inside in
+      omega (arith, zeros-below k k j (omega arith) some inside)

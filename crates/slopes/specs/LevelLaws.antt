@@ -10,7 +10,7 @@
 use mathlib.Core.List.{List, [], _∷_, _++_, List·Memᴰ, List·Memᴰ·head, List·Memᴰ·tail}
 use mathlib.Core.List.{List·Memᴰ·not-nil, List·Memᴰ·cases-cons, List·Memᴰ·append-cases, List·Memᴰ·eq-of-singleton}
 use mathlib.Core.List.{Memᴰ·append-left, Memᴰ·append-right}
-use mathlib.Core.Logic.{⊎-elim}
+use mathlib.Core.Logic.{_⊎_, inl, inr, ⊎-elim}
 use mathlib.Core.Path.{_≡_, refl, ap, _∙_}
 use Prim.Native.Nat.{ℕ, zero, suc, _+_, _-_, _*_, _^_, _≤_, _<_}
 use native.Mathlib.Nat.{mul-le-mul-right, mul-lt-mul-of-pos-left, lt-of-mul-lt-mul-left, le-of-lt, pow-suc}
@@ -20,7 +20,7 @@ use lib.Pow.{pow-mono}
 use lib.Seq.{getD-at, getD-append-add}
 use Rattle.laws.specs.Sums.{sum, sum-cong, sum-plus}
 use Rattle.slopes.specs.declared.Slope.{Slope}
-use Rattle.slopes.specs.Slopes.{acrossOf, upOf, _⊕_, levels, flat, upright}
+use Rattle.slopes.specs.Slopes.{acrossOf, upOf, _⊕_, levels, levelNumbers, flat, upright}
 
 unfoldable pub level : ℕ → Slope → Slope → List Slope
 level zero l r = (l ⊕ r) ∷ []
@@ -48,6 +48,9 @@ below-trans s t u p h g =
 factor-left : (a b c : ℕ) → a * b ≡ c + 1 → 1 ≤ a
 factor-left zero b c e = absurd (omega arith)
 factor-left (suc a) b c e = omega arith
+
+below-across : (s t : Slope) → Below s t → 1 ≤ s .across
+below-across s t h = factor-left (s .across) (t .up) (s .across * t .up - 1) (omega arith)
 
 pub adjacent-across : (s t : Slope) → Adjacent s t → 1 ≤ s .across
 adjacent-across s t h = factor-left (s .across) (t .up) (s .up * t .across) h
@@ -153,6 +156,31 @@ unfolding levels
 levels-right k l r d =
     joined-right (levels k l (l ⊕ r)) (l ⊕ r) (levels k (l ⊕ r) r) (2 ^ k) (levels-length k l (l ⊕ r)) d
 
+pub numbers-length : (k i : ℕ) → length (levelNumbers k i) + 1 ≡ 2 ^ k
+unfolding levelNumbers
+numbers-length zero i = refl
+numbers-length (suc k) i =
+    let half = levelNumbers k (suc i) in
+    rw pow-suc (joined-length half i half (2 ^ k) (numbers-length k (suc i)) (numbers-length k (suc i)))
+
+-- the levels' numbers stand as their fractions do
+pub numbers-left : (k i d p : ℕ) → 1 ≤ p → p < 2 ^ k
+    → getD (levelNumbers (suc k) i) (p - 1) d ≡ getD (levelNumbers k (suc i)) (p - 1) d
+unfolding levelNumbers
+numbers-left k i d =
+    joined-left (levelNumbers k (suc i)) i (levelNumbers k (suc i)) (2 ^ k) (numbers-length k (suc i)) d
+
+pub numbers-middle : (k i d : ℕ) → getD (levelNumbers (suc k) i) (2 ^ k - 1) d ≡ i
+unfolding levelNumbers
+numbers-middle k i d =
+    joined-middle (levelNumbers k (suc i)) i (levelNumbers k (suc i)) (2 ^ k) (numbers-length k (suc i)) d
+
+pub numbers-right : (k i d p : ℕ) → 1 ≤ p
+    → getD (levelNumbers (suc k) i) (2 ^ k + p - 1) d ≡ getD (levelNumbers k (suc i)) (p - 1) d
+unfolding levelNumbers
+numbers-right k i d =
+    joined-right (levelNumbers k (suc i)) i (levelNumbers k (suc i)) (2 ^ k) (numbers-length k (suc i)) d
+
 ------------------------------------------------------------------------
 -- Which fractions
 
@@ -190,6 +218,49 @@ pub getD-in : (d : Slope) (ss : List Slope) (i : ℕ) → i < length ss → getD
 getD-in d [] i h = absurd (omega arith)
 getD-in d (s ∷ ss) zero h = List·Memᴰ·head refl
 getD-in d (s ∷ ss) (suc i) h = List·Memᴰ·tail (getD-in d ss i (omega arith))
+
+-- a level stands between the neighbours
+level-between : (i : ℕ) (l r s : Slope) → Adjacent l r → s ∈ level i l r → Below l s × Below s r
+unfolding level
+level-between zero l r s h m = rw (List·Memᴰ·eq-of-singleton m) (omega arith, omega arith)
+level-between (suc i) l r s h m =
+    let mid = l ⊕ r in
+    ⊎-elim
+    (λ a. let b = level-between i l mid s (omega arith) a in
+    (b .0, below-trans s mid r (below-across s mid (b .1)) (b .1) (omega arith)))
+    (λ a. let b = level-between i mid r s (omega arith) a in
+    (below-trans l mid s (adjacent-across l r h) (omega arith) (b .0), b .1))
+    (List·Memᴰ·append-cases (level i l mid) m)
+
+-- a level but the first stands on both sides of the middle
+sides : (i : ℕ) (l r s : Slope) → Adjacent l r → s ∈ level (suc i) l r
+    → (Below s (l ⊕ r) × (s ∈ level i l (l ⊕ r))) ⊎ (Below (l ⊕ r) s × (s ∈ level i (l ⊕ r) r))
+unfolding level
+sides i l r s h m =
+    ⊎-elim
+    (λ a. inl (level-between i l (l ⊕ r) s (omega arith) a .1, a))
+    (λ a. inr (level-between i (l ⊕ r) r s (omega arith) a .0, a))
+    (List·Memᴰ·append-cases (level i l (l ⊕ r)) m)
+
+off-middle : (i : ℕ) (l r s : Slope) → Adjacent l r → s ∈ level (suc i) l r → s ≡ l ⊕ r → ⊥
+off-middle i l r s h m e =
+    ⊎-elim (λ a. let b = rw e at (a .0) in omega arith) (λ a. let b = rw e at (a .0) in omega arith) (sides i l r s h m)
+
+-- what is in the levels is in only one of them
+pub one-level : (i j : ℕ) (l r s : Slope) → Adjacent l r → s ∈ level i l r → s ∈ level j l r → i ≡ j
+unfolding level
+one-level zero zero l r s h a b = refl
+one-level zero (suc j) l r s h a b = absurd (off-middle j l r s h b (List·Memᴰ·eq-of-singleton a))
+one-level (suc i) zero l r s h a b = absurd (off-middle i l r s h a (List·Memᴰ·eq-of-singleton b))
+one-level (suc i) (suc j) l r s h a b =
+    ⊎-elim
+    (λ p. ⊎-elim (λ q. ap suc (one-level i j l (l ⊕ r) s (omega arith) (p .1) (q .1)))
+    (λ q. absurd (omega (arith, p .0, q .0)))
+    (sides j l r s h b))
+    (λ p. ⊎-elim (λ q. absurd (omega (arith, p .0, q .0)))
+    (λ q. ap suc (one-level i j (l ⊕ r) r s (omega arith) (p .1) (q .1)))
+    (sides j l r s h b))
+    (sides i l r s h a)
 
 ------------------------------------------------------------------------
 -- Sums
