@@ -1,5 +1,5 @@
 -- Document 01's cases that are marked [proved], as document 02 changes them: one table, and one theorem about the
--- definitions. Frames count grid cells (request 101).
+-- definitions. Frames count grid cells (request 101), and the walk to a balanced slope tells its turns (request 104).
 --
 --   Case          == a case, with what document 01 says of it
 --   Holds c       == the definitions say so
@@ -7,9 +7,9 @@
 --   cases         == the table, in document 01's order
 --   cases-hold    == every case of it holds
 use mathlib.Core.Bool.{true}
-use mathlib.Core.List.{List, [], _∷_, _++_}
+use mathlib.Core.List.{List, [], _∷_, _++_, map}
 use mathlib.Core.Path.{_≡_, refl}
-use Prim.Native.Nat.{ℕ, _+_, _*_}
+use Prim.Native.Nat.{ℕ, suc, _+_, _*_}
 use lib.IntN.{ℤ, pos, negℤ}
 use lib.ListN.{length}
 use Rattle.laws.specs.Refusals.{refusal}
@@ -20,7 +20,7 @@ use Rattle.table.specs.Table.{shapeFault, treeFault, tableFault}
 use Rattle.slopes.specs.declared.Rule.the-variants.{Steep, Balanced}
 use Rattle.slopes.specs.declared.Slope.{Slope}
 use Rattle.slopes.specs.Examples.{_over_}
-use Rattle.slopes.specs.Slopes.{levels, flat, upright, levelsFor, slopeAt, edge}
+use Rattle.slopes.specs.Slopes.{levels, levelNumbers, flat, upright, levelAt, levelsFor, slopeAt, edge}
 use Rattle.drawing.specs.declared.Framed.{Framed}
 use Rattle.drawing.specs.declared.Framed.the-variants.{Frame, Refused}
 use Rattle.drawing.specs.Drawing.{Drawing, sumUp, pathSum, freshPlaces, fresh, largest, frame, placed, nodeFits}
@@ -55,8 +55,8 @@ pub data Case : Type 0 where
   Calls : Outcome Framed Drawing → Framed → Drawing → Case
   -- the steep direction of the five-lot table from u to v
   Goes : ℕ → ℕ → ℤ → ℤ → Case
-  -- the fractions of levels 1 to k
-  Levels : ℕ → List Slope → Case
+  -- the fractions of levels 1 to k, and how many turns lead to each: one less than its level
+  Levels : ℕ → List Slope → List ℕ → Case
   -- the check's answer for a table with its places
   Checks : List ℕ → List ℕ → List ℕ → List ℕ → Verdict → Case
   -- a table's refusal
@@ -68,7 +68,7 @@ unfoldable pub Holds : Case → Type 0
 Holds (Numbers P R l) = tabulate (length P) (postNumber P R) ≡ l
 Holds (Calls o a s) = o ≡ record { answer = a; left = s }
 Holds (Goes u v d e) = direction large fiveParents fiveRanks Steep 20 u v ≡ Along d e
-Holds (Levels k l) = levels k flat upright ≡ l
+Holds (Levels k l turns) = (levels k flat upright ≡ l) × (tabulate (length l) (λ i. levelAt k (suc i)) ≡ map suc turns)
 Holds (Checks P R x y r) = Says checked P R x y (4 * length P) r
 Holds (Refuses P R k v) = tableFault large P R true (4 * length P) ≡ refusal k v
 Holds (Prints P R text) = sheetText (fileOf P R) ≡ text
@@ -134,8 +134,9 @@ cases =
     ∷ Calls (lengthen large fiveParents fiveRanks Steep steep 20 1 2) (Frame 5 12) stretchedOne
     ∷ Calls (shorten large fiveParents fiveRanks Steep stretchedOne 20 1 3) (Refused 12 1) stretchedOne
     ∷ Calls (shorten large fiveParents fiveRanks Steep stretchedOne 20 1 2) (Frame 3 6) steep
-    -- three balanced levels
+    -- three balanced levels, and the turns to each slope
     ∷ Levels 3 (1 over 3 ∷ 1 over 2 ∷ 2 over 3 ∷ 1 over 1 ∷ 3 over 2 ∷ 2 over 1 ∷ 3 over 1 ∷ [])
+    (2 ∷ 1 ∷ 2 ∷ 0 ∷ 2 ∷ 1 ∷ 2 ∷ [])
     -- one lot
     ∷ Calls (layout large one one Balanced (lent (9 ∷ []) (9 ∷ []) (9 ∷ [])) 4) (Frame 1 1) (lent (1 ∷ []) one one)
     -- two lots, up to the largest place and one beyond it
@@ -162,14 +163,14 @@ a and b = (a, b)
 pub cases-hold : AllHold cases
 unfolding AllHold Holds cases count least tabulate climb leads isChild children isChildAt childAt under stepsUp forest
     postorder place order postNumber strayParent badRank adrift allLong shapeFault treeFault tableFault
-    levels levelsFor slopeAt edge sumUp pathSum freshPlaces fresh largest frame placed nodeFits moved stretched beyond
-    drawingFault edgeFault stretchFault layout lengthen shorten sideways heading pairFault direction
+    levels levelNumbers levelsFor slopeAt edge sumUp pathSum freshPlaces fresh largest frame placed nodeFits moved
+    stretched beyond drawingFault edgeFault stretchFault layout lengthen shorten sideways heading pairFault direction
     wordAt words statedNodes fileParents fileRanks openFault bytesOf allBytes fileOf digits decimal field lotLine
     lotLines sheetOf fileFault placesOfTable textOf sheetText
     monotone.placeBeyond checkFault widen span upward downward pathVectors turnsAt secondNode firstNode decide
 cases-hold =
     refl and refl and refl and refl and refl and refl and refl and refl
-    and refl and refl and refl and refl and refl and refl and refl
+    and refl and refl and refl and (refl, refl) and refl and refl and refl
     and says (0 ∷ 0 ∷ 1 ∷ 2 ∷ []) (0 ∷ 0 ∷ 0 ∷ 0 ∷ []) (0 ∷ 1 ∷ 1 ∷ 0 ∷ []) (0 ∷ 0 ∷ 1 ∷ 1 ∷ [])
     and says (0 ∷ 0 ∷ 1 ∷ []) (0 ∷ 0 ∷ 0 ∷ []) (0 ∷ 1 ∷ 2 ∷ []) (0 ∷ 0 ∷ 0 ∷ [])
     and says two two two two

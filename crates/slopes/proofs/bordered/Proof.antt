@@ -1,4 +1,4 @@
--- `slopes::bordered` meets its contract: both ends apart, the rest by a descent.
+-- `slopes::bordered` meets its contract: both ends apart, the rest by a walk.
 use borrow.Author.Needs.{needs}
 use mathlib.Core.Path.{_≡_, sym, ap, _∙_}
 use Prim.Native.Nat.{ℕ, _*_, _%_, _^_, _≤_}
@@ -20,19 +20,19 @@ returns-2 c =
     let start = c .before .before in
     sym (bordered-last _ _ (c .if2 .taken ∙ one-shifted (start .args .k) (start .pre .0)))
 
-descend-requires : tie.Need-descend-requires
-descend-requires c κs =
+walk-to-requires : tie.Need-walk-to-requires
+walk-to-requires c κs =
     let start = c .before .before in
     let power = one-shifted (start .args .k) (start .pre .0) in
     (start .pre .0, omega arith, omega arith)
 
 returns-3 : tie.Need-returns-3
 returns-3 c =
-    let other = c .before in
-    let start = other .before .before in
+    let walked = c .before in
+    let start = walked .before .before .before in
     let power = one-shifted (start .args .k) (start .pre .0) in
-    c .descend .ensures ∙ sym (bordered-is (start .args .k) (start .args .j) (omega arith) (omega arith))
+    walked .walk-to .ensures .0 ∙ sym (bordered-is (start .args .k) (start .args .j) (omega arith) (omega arith))
 
 pub bordered-spec : {M : Type 1} → statement M
-bordered-spec = tie.close (tie.spec returns (λ c. search needs) returns-2 (λ c. search needs) descend-requires
+bordered-spec = tie.close (tie.spec returns (λ c. search needs) returns-2 (λ c. search needs) walk-to-requires
     returns-3)

@@ -1,4 +1,4 @@
--- `slopes::slope_at` meets its contract: the steep slope as it is defined, the balanced one by a descent in as many
+-- `slopes::slope_at` meets its contract: the steep slope as it is defined, the balanced one by a walk in as many
 -- levels as n nodes need.
 use borrow.Author.Needs.{needs}
 use mathlib.Core.Path.{sym, ap, _∙_}
@@ -10,8 +10,8 @@ use Rattle.slopes.specs.SlopeLaws.{levelsFor-least, levelsFor-enough}
 use Rattle.slopes.proofs.slope_at.Statement.{statement}
 use Rattle.slopes.proofs.slope_at.Tie as tie
 
-descend-requires : tie.Need-descend-requires
-descend-requires c κs =
+walk-to-requires : tie.Need-walk-to-requires
+walk-to-requires c κs =
     let start = c .before .before .before in
     let n = start .args .n in
     rw (c .levels-for .ensures)
@@ -28,14 +28,15 @@ returns c =
 returns-2 : tie.Need-returns-2
 unfolding slopeAt
 returns-2 c =
-    let counted = c .before in
+    let walked = c .before in
+    let counted = walked .before in
     let told = counted .before in
     let start = told .before .before in
     let j = start .args .j in
-    c .descend .ensures
+    walked .walk-to .ensures .0
     ∙ ap (λ (k : ℕ). fractionAt k j) (counted .levels-for .ensures)
     ∙ sym (ap (λ (rule : Rule). slopeAt rule (start .args .n) j) (told .enum-told2 .given .1))
 
 pub slope-at-spec : {M : Type 1} → statement M
 slope-at-spec = tie.close (tie.spec (λ c. search needs) (λ c κs. search needs) (λ c. search needs)
-    (λ c κs. search needs) (λ c. search needs) descend-requires returns returns-2)
+    (λ c κs. search needs) (λ c. search needs) walk-to-requires returns returns-2)
