@@ -1,13 +1,25 @@
 #!/usr/bin/env python3
-"""Prints what the program `cases` must print: document 01's calls on large trees, in plain Python.
+"""Prints what the program `cases` must print: document 01's calls on large trees, in plain Python, and before them the
+slopes of 1 to 16 levels with their levels less 1.
 
-Written from document 01 (tree table, traversal, slopes, layout, lengthen, shorten, check, refusals), not from the
-Rattle code. It takes a minute or two.
+Written from document 01 (tree table, traversal, slopes, layout, lengthen, shorten, check, refusals) and document 02
+(frames, levels), not from the Rattle code. It takes a minute or two.
     python3 tests/cases.py > crates/cases/stdout
 """
 LIMIT = 2147483647
 LOTS = 65536
 CHECKED = 4096
+
+
+def fractions(k):
+    """The fractions of levels 1 to k as (across, up, level), in increasing order."""
+    row = [(1, 0, 0), (0, 1, 0)]  # the starting fractions 0/1 and 1/0, which stand in no level
+    for level in range(1, k + 1):
+        more = [row[0]]
+        for (a, b, _), right in zip(row, row[1:]):
+            more += [(a + right[0], b + right[1], level), right]
+        row = more
+    return row[1:-1]
 
 
 def slopes(rule, n):
@@ -17,13 +29,7 @@ def slopes(rule, n):
     k = 0
     while 2**k < n:
         k += 1
-    row = [(1, 0), (0, 1)]  # the starting fractions 0/1 and 1/0, as (across, up)
-    for _ in range(k):
-        more = [row[0]]
-        for (a, b), (c, d) in zip(row, row[1:]):
-            more += [(a + c, b + d), (c, d)]
-        row = more
-    return row[1:n]
+    return [(across, up) for across, up, _ in fractions(k)][: n - 1]
 
 
 class Tree:
@@ -196,6 +202,9 @@ def case(shape, relabelled, rule, n):
 
 
 def main():
+    for k in range(1, 17):
+        across, up, level = zip(*fractions(k))
+        show(k, mixed(across), mixed(up), mixed(i - 1 for i in level))
     for kind, n in enumerate([4096] * 5 + [65536, 4097, 65536, 65537, 65536]):
         for relabelled in (0, 1):
             for rule in (0, 1):

@@ -1,4 +1,5 @@
-// Large trees of several shapes under both rules: layout, a list of calls and the check, with a line for each answer.
+// The walks to all balanced slopes of 1 to 16 levels, a line for each number of levels; then large trees of several
+// shapes under both rules: layout, a list of calls and the check, with a line for each answer.
 //
 // Each line ends with three lists, each mixed into one number. What is printed is compared with the output of
 // tests/cases.py, which makes the same calls in plain Python.
@@ -7,6 +8,7 @@ use monotone::Verdict;
 use slopes::Rule;
 use std::num::wrapping_add_u32;
 use std::num::wrapping_sub_usize;
+ghost use Prim.Native.Nat.{_≤_};
 
 // A tree and a rule: the shape, whether nodes are relabelled, whether the rule is balanced, and how many nodes.
 struct Case {
@@ -74,14 +76,48 @@ fn show_three(a: u32, b: u32, c: u32) {
     show(c);
 }
 
+// Three mixed numbers, and the line's end.
+fn show_mixed(a: u64, b: u64, c: u64) {
+    io::print_decimal(1, a);
+    io::write_all(1, b" ");
+    io::print_decimal(1, b);
+    io::write_all(1, b" ");
+    io::print_decimal(1, c);
+    io::write_all(1, b"\n");
+}
+
 // Three lists, and the line's end.
 fn show_lists(a: &[u32], x: &[u32], y: &[u32]) {
-    io::print_decimal(1, mixed(a));
-    io::write_all(1, b" ");
-    io::print_decimal(1, mixed(x));
-    io::write_all(1, b" ");
-    io::print_decimal(1, mixed(y));
-    io::write_all(1, b"\n");
+    show_mixed(mixed(a), mixed(x), mixed(y));
+}
+
+// The walks to the slopes of k levels, in order: k, then the across parts, the up parts and the numbers of turns.
+fn show_walks(k: u32)
+    requires { ⌜ k ≤ 16 ⌝ }
+{
+    let end = 1u32 << k;
+    let mut across = 0;
+    let mut up = 0;
+    let mut turns = 0;
+    let mut j = 1;
+    while j < end {
+        let walked = slopes::walk_to(k, j);
+        across = mix(across, walked.slope.across);
+        up = mix(up, walked.slope.up);
+        turns = mix(turns, walked.turns);
+        j += 1;
+    }
+    show(k);
+    show_mixed(across, up, turns);
+}
+
+// The walks in 1 to 16 levels, which are all that 65,536 lots need.
+fn walks() {
+    let mut k = 1;
+    while k <= 16 {
+        show_walks(k);
+        k += 1;
+    }
 }
 
 // The next number of a small linear congruential generator.
@@ -432,6 +468,7 @@ fn cases(
 }
 
 fn main() {
+    walks();
     let mut parent = [0u32; 65537];
     let mut rank = [0u32; 65537];
     let mut times = [0u32; 65537];
