@@ -184,5 +184,4 @@ module _ (k j : ℕ) (some : 1 ≤ j) (inside : j < 2 ^ k) where
   pub level-is : (i : ℕ) → fractionAt k j ∈ level i flat upright → levelAt k j ≡ suc i
   level-is i m =
       let same = one-level (levelAt k j - 1) i flat upright (fractionAt k j) refl in-its-level m in
-      let level = position-level k k j (omega arith) some inside in
-      omega (arith, zeros-below k k j (omega arith) some inside)
+      omega (arith, position-level k k j (omega arith) some inside, zeros-below k k j (omega arith) some inside)

@@ -156,7 +156,7 @@ unfolding levels
 levels-right k l r d =
     joined-right (levels k l (l ⊕ r)) (l ⊕ r) (levels k (l ⊕ r) r) (2 ^ k) (levels-length k l (l ⊕ r)) d
 
-pub numbers-length : (k i : ℕ) → length (levelNumbers k i) + 1 ≡ 2 ^ k
+numbers-length : (k i : ℕ) → length (levelNumbers k i) + 1 ≡ 2 ^ k
 unfolding levelNumbers
 numbers-length zero i = refl
 numbers-length (suc k) i =
@@ -242,6 +242,7 @@ sides i l r s h m =
     (λ a. inr (level-between i (l ⊕ r) r s (omega arith) a .0, a))
     (List·Memᴰ·append-cases (level i l (l ⊕ r)) m)
 
+-- so what is in it is not the middle
 off-middle : (i : ℕ) (l r s : Slope) → Adjacent l r → s ∈ level (suc i) l r → s ≡ l ⊕ r → ⊥
 off-middle i l r s h m e =
     ⊎-elim (λ a. let b = rw e at (a .0) in omega arith) (λ a. let b = rw e at (a .0) in omega arith) (sides i l r s h m)

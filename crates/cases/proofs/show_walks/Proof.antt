@@ -18,5 +18,4 @@ loop-holds c = (omega arith, shl-exact 1 (c .args .k) 32 (omega arith) (omega ar
 pub show-walks-spec : {M : Type 1} → statement M
 show-walks-spec = tie.close (tie.spec Inv-loop μ-loop (λ c. omega arith) loop-holds
     (λ c κs. (omega arith, omega arith, omega arith)) (λ c κs. tt) (λ c κs. tt) (λ c κs. tt) (λ c. omega arith)
-    (λ c. omega arith) (λ c. (omega arith, c .before .before .before .before .before .loop .inv .1)) (λ c κs. tt)
-    (λ c κs. tt) (λ c. tt))
+    (λ c. omega arith) (λ c. (omega arith, omega arith)) (λ c κs. tt) (λ c κs. tt) (λ c. tt))
