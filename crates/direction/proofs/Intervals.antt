@@ -8,8 +8,7 @@ use lib.Dec.{leb}
 use lib.ListN.{length, getD}
 use borrow.Author.Tests.{leb-true, le-leb}
 use Rattle.laws.specs.Tests.{same-test}
-use Rattle.table.specs.Table.{under, postNumber}
-use Rattle.table.specs.Postorder.{firstNumber}
+use Rattle.table.specs.Table.{under, postNumber, firstNumber}
 use Rattle.table.specs.Numbering.{in-subtree}
 use Rattle.direction.specs.Parts.{LargeTree, TwoNodes}
 

@@ -9,9 +9,8 @@ use lib.ListN.{length, getD, set, length-set}
 use lib.Seq.{ext-getD}
 use Rattle.laws.specs.Regions.{read-set}
 use Rattle.laws.specs.Tests.{by-test, by-eq, differ}
-use Rattle.table.specs.Numbering.{numbering, number-at, in-subtree, NumberedTree}
-use Rattle.table.specs.Postorder.{first-is, firstNumber}
-use Rattle.table.specs.Table.{under, order, postNumber}
+use Rattle.table.specs.Numbering.{numbering, number-at, first-is, in-subtree, NumberedTree}
+use Rattle.table.specs.Table.{under, order, postNumber, firstNumber}
 use Rattle.stretching.specs.Stretching.{moved}
 use Rattle.stretching.specs.Parts.{by, Passes, Movable}
 use Rattle.stretching.specs.StretchLaws.{moved-long, moved-in, moved-out}

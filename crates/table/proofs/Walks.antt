@@ -9,10 +9,9 @@ use Rattle.laws.specs.Sums.{sum, sum-more}
 use Rattle.laws.specs.Tests.{by-eq, by-lt}
 use Rattle.table.specs.Children.{childAt-only, slot, slot-below, slot-once}
 use Rattle.table.specs.Numbering.{Numbered, numbering, number-at, root-last, number-start, last-child}
-use Rattle.table.specs.Numbering.{next-child, first-child, leaf-number}
-use Rattle.table.specs.Postorder.{size, start, child-at, first-is, number-is, place-of-number, start-root}
-use Rattle.table.specs.Postorder.{firstNumber}
-use Rattle.table.specs.Table.{parent, rank, children, childAt, order, postNumber}
+use Rattle.table.specs.Numbering.{next-child, first-child, leaf-number, first-is}
+use Rattle.table.specs.Postorder.{size, start, child-at, number-is, place-of-number, start-root}
+use Rattle.table.specs.Table.{parent, rank, children, childAt, order, postNumber, firstNumber}
 use Rattle.table.specs.TableLaws.{Tree, tree-nodes, tree-ranked}
 use Rattle.table.specs.Parts.{Ready, Seated, Leftmost, Next, Visited}
 

@@ -7,10 +7,9 @@ use Prim.Native.Nat.{ℕ, _*_}
 use lib.ListN.{length}
 use Rattle.laws.specs.Refusals.{refusal}
 use Rattle.laws.specs.Search.{count, least, tabulate, Refusal}
-use Rattle.table.specs.Table.{climb, leads, isChild, children, isChildAt, childAt, forest, postorder, order}
-use Rattle.table.specs.Table.{place, postNumber, strayParent, badRank, adrift, large, shapeFault, treeFault}
-use Rattle.table.specs.Table.{tableFault}
-use Rattle.table.specs.Postorder.{subtree, firstNumber}
+use Rattle.table.specs.Table.{climb, leads, isChild, children, isChildAt, childAt, under, forest, postorder}
+use Rattle.table.specs.Table.{order, place, postNumber, hasNumber, firstNumber, strayParent, badRank, adrift}
+use Rattle.table.specs.Table.{large, shapeFault, treeFault, tableFault}
 
 unfoldable pub fault : List ℕ → List ℕ → Option Refusal
 unfolding tableFault shapeFault treeFault count least climb leads isChild children isChildAt strayParent badRank adrift
@@ -61,6 +60,6 @@ abbrev five-ranks : List ℕ
 five-ranks = 0 ∷ 0 ∷ 1 ∷ 0 ∷ 1 ∷ []
 
 pub five-firsts : tabulate 5 (firstNumber five-parents five-ranks) ≡ 1 ∷ 1 ∷ 4 ∷ 1 ∷ 2 ∷ []
-unfolding count least tabulate isChild children isChildAt childAt forest postorder subtree order place postNumber
-    firstNumber
+unfolding count least tabulate climb isChild children isChildAt childAt under forest postorder order place postNumber
+    hasNumber firstNumber
 five-firsts = refl

@@ -9,23 +9,28 @@
 --   numbering              == post numbers are a numbering
 --   climb-between          == a node's number lies between the first and the last of each subtree that it is in,
 --   between-climb             and is in each such subtree
---   in-subtree             == both, by the test `under`
+--   first-is               == a subtree's first number is that of the first node of its block,
+--   first-by-size             so it is one more than the last less the subtree's size
+--   in-subtree             == z is in v's subtree exactly when its number lies between v's first and last
 use mathlib.Core.Bool.{true}
 use mathlib.Core.List.{List, [], _∷_, _++_}
 use mathlib.Core.Logic.{_↔_}
-use mathlib.Core.Path.{_≡_, sym, ap, ap₂, subst, subst⁻¹, _∙_}
+use mathlib.Core.Path.{_≡_, refl, sym, ap, ap₂, subst, subst⁻¹, _∙_}
 use Prim.Native.Nat.{ℕ, zero, suc, _+_, _-_, _*_, _^_, _≤_, _<_}
 use native.Mathlib.Omega.{arith}
+use lib.Dec.{eqb}
 use lib.ListN.{length, getD, length-append, List·getD-append}
 use lib.Seq.{getD-at, getD-append-add}
+use borrow.Author.Tests.{ltb-true, eqb-true, lt-ltb, eq-eqb}
+use Rattle.laws.specs.SearchLaws.{count-pos, count-some, least-is}
 use Rattle.laws.specs.Sums.{sum-more, sum-mono}
-use Rattle.laws.specs.Tests.{by-lt}
+use Rattle.laws.specs.Tests.{by-lt, false-of, both, both-is}
 use Rattle.table.specs.Ancestry.{under-steps, steps-under}
 use Rattle.table.specs.Children.{childAt-only}
 use Rattle.table.specs.Postorder.{size, ahead, start, child-at, block-of, root-size, size-step, start-root}
-use Rattle.table.specs.Postorder.{start-child, number-is, number-le, first-is, at-place, place-of-number}
-use Rattle.table.specs.Postorder.{firstNumber, subtree}
+use Rattle.table.specs.Postorder.{start-child, number-is, number-le, at-place, place-of-number, subtree}
 use Rattle.table.specs.Table.{parent, rank, climb, under, children, childAt, forest, postorder, order, postNumber}
+use Rattle.table.specs.Table.{hasNumber, firstNumber}
 use Rattle.table.specs.TableLaws.{Tree, tree-ranked}
 
 pub record Numbering (P R : List ℕ) (number : ℕ → ℕ) : Type 0 where
@@ -245,18 +250,56 @@ module _ {P R : List ℕ} (t : Tree P R) where
   unfolding postNumber
   number-at j l = let p = at-place t j l in (p .0, omega (arith, p .1))
 
-  -- z is in v's subtree exactly when its number lies between v's first and last
+  number-has : (v z : ℕ) → z < length P → under P v z ≡ true → hasNumber P R v (postNumber P R z) ≡ true
+  unfolding hasNumber
+  number-has v z l e =
+      lt-ltb 0 _ (count-pos _ (length P) z l (both-is e (eq-eqb (postNumber P R z) (postNumber P R z) refl)))
+
+  has-number : (v j : ℕ) → hasNumber P R v j ≡ true
+      → (z : ℕ) × (z < length P) × (under P v z ≡ true) × (postNumber P R z ≡ j)
+  unfolding hasNumber
+  has-number v j e =
+      let z = count-some _ (length P) (ltb-true 0 _ e) in
+      let b = both (under P v (z .0)) (eqb (postNumber P R (z .0)) j) (z .2) in
+      (z .0, z .1, b .0, eqb-true (postNumber P R (z .0)) j (b .1))
+
+  pub first-is : (v : ℕ) → v < length P → firstNumber P R v ≡ start P R v + 1
+  unfolding firstNumber
+  first-is v l =
+      sym (least-is (hasNumber P R v) (suc (length P)) (start P R v + 1) (omega (arith, number-le t v l))
+      (λ j b. false-of (λ e. before j b (has-number v j e)))
+      (λ b. subst (λ (j : ℕ). hasNumber P R v j ≡ true) (first .1) (number-has v _ (first .0) first-under)))
+    where
+      first : (getD (order P R) (start P R v) 0 < length P)
+          × (postNumber P R (getD (order P R) (start P R v) 0) ≡ start P R v + 1)
+      first = number-at (start P R v) (omega (arith, number-start v l, numbering .to-n v l))
+
+      first-under : under P v (getD (order P R) (start P R v) 0) ≡ true
+      first-under =
+          let k = between-climb v _ l (first .0) (omega (arith, first .1))
+          (omega (arith, first .1, number-start v l)) in
+          steps-under P (t .inside) v _ (k .0) (first .0) (k .1)
+
+      before : (j : ℕ) → j < start P R v + 1
+          → (z : ℕ) × (z < length P) × (under P v z ≡ true) × (postNumber P R z ≡ j) → ⊥
+      before j b (z, lz, e, is) =
+          let k = under-steps P v z e in
+          omega (arith, climb-between (k .0) z lz .0, ap (start P R) (k .2))
+
+  pub first-by-size : (v : ℕ) → v < length P → firstNumber P R v ≡ suc (postNumber P R v) - size P R v
+  first-by-size v l = omega (arith, first-is v l, number-is t v l)
+
   pub in-subtree : (v z : ℕ) → v < length P → z < length P
       → (under P v z ≡ true) ↔ ((firstNumber P R v ≤ postNumber P R z) × (postNumber P R z ≤ postNumber P R v))
   in-subtree v z lv lz = (
     (λ e.
         let k = under-steps P v z e in
         let b = climb-between (k .0) z lz in (
-          omega (arith, b .0, ap (start P R) (k .2), first-is t v lv),
+          omega (arith, b .0, ap (start P R) (k .2), first-is v lv),
           omega (arith, b .1, ap (postNumber P R) (k .2)),
         )),
     (λ b.
-        let k = between-climb v z lv lz (omega (arith, b .0, first-is t v lv)) (b .1) in
+        let k = between-climb v z lv lz (omega (arith, b .0, first-is v lv)) (b .1) in
         steps-under P (t .inside) v z (k .0) lz (k .1)),
   )
 

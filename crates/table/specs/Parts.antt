@@ -26,10 +26,9 @@ use Rattle.table.specs.Children.{Nodes, slot}
 use Rattle.table.specs.declared.Limits.{Limits}
 use Rattle.table.specs.declared.Validity.{Validity}
 use Rattle.table.specs.declared.Validity.the-variants.{Accepted}
-use Rattle.table.specs.Table.{parent, rank, climb, children, isChildAt, order, postNumber, treeFault}
-use Rattle.table.specs.Table.{shapeFault, tableFault}
+use Rattle.table.specs.Table.{parent, rank, climb, children, isChildAt, order, postNumber, firstNumber}
+use Rattle.table.specs.Table.{treeFault, shapeFault, tableFault}
 use Rattle.table.specs.Acceptance.{validity}
-use Rattle.table.specs.Postorder.{firstNumber}
 use Rattle.table.specs.TableLaws.{Tree}
 
 -- the work list is left alone on these refusals

@@ -1,7 +1,6 @@
 -- The post-order of an accepted table: each subtree is a block of the whole order, and every node stands in it once.
 --
 --   subtree P R v     == v's subtree in post-order
---   firstNumber P R v == the first post number in v's subtree, whose last is v's own
 --   size P R v        == the number of nodes in v's subtree
 --   ahead P R v r     == the number of nodes in the subtrees of v's first r children
 --   Block P R v b     == v's subtree is the block of the order that starts after b nodes
@@ -28,9 +27,6 @@ use Rattle.table.specs.TableLaws.{Tree, tree-nodes, tree-ranked}
 
 unfoldable pub subtree : List ℕ → List ℕ → ℕ → List ℕ
 subtree P R v = postorder P R (suc (length P)) v
-
-unfoldable pub firstNumber : List ℕ → List ℕ → ℕ → ℕ
-firstNumber P R v = suc (postNumber P R v) - length (subtree P R v)
 
 ------------------------------------------------------------------------
 -- Lists of lists
@@ -288,10 +284,6 @@ module _ {P R : List ℕ} (t : Tree P R) where
 
   pub number-le : (v : ℕ) → v < length P → start P R v + size P R v ≤ length P
   number-le v l = block-fits v (start P R v) (block-of v l)
-
-  pub first-is : (v : ℕ) → v < length P → firstNumber P R v ≡ start P R v + 1
-  unfolding firstNumber
-  first-is v l = omega (arith, number-is v l)
 
   -- a node stands at its number
   pub place-of-number : (v : ℕ) → v < length P → getD (order P R) (postNumber P R v - 1) 0 ≡ v

@@ -15,6 +15,8 @@
 --   postorder P R f v        == v's subtree, the subtrees of the children in rank order, then v; f bounds the depth
 --   order P R                == the whole post-order: the root's subtree
 --   postNumber P R v         == v's place in it, from 1
+--   hasNumber P R v j        == a node in v's subtree has the post number j
+--   firstNumber P R v        == the first post number in v's subtree: the least
 --   large, checked, printed  == the limits of a call on a table, of the check, and of the program `sheet`
 --   shapeFault L ..          == refusals 1 to 3 at the limits L
 --   treeFault P R            == refusals 4 to 7
@@ -89,6 +91,12 @@ order P R = postorder P R (suc (length P)) 0
 
 unfoldable pub postNumber : List ℕ → List ℕ → ℕ → ℕ
 postNumber P R v = suc (place v (order P R))
+
+unfoldable pub hasNumber : List ℕ → List ℕ → ℕ → ℕ → Bool
+hasNumber P R v j = ltb 0 (count (λ z. under P v z && eqb (postNumber P R z) j) (length P))
+
+unfoldable pub firstNumber : List ℕ → List ℕ → ℕ → ℕ
+firstNumber P R v = least (hasNumber P R v) (suc (length P))
 
 ------------------------------------------------------------------------
 -- Limits
