@@ -1,78 +1,48 @@
 -- Layout's outcome from what its parts say.
 use mathlib.Core.Bool.{Bool}
 use mathlib.Core.List.{List}
-use mathlib.Core.Option.{none, some}
 use mathlib.Core.Path.{_≡_, sym, ap, subst, _∙_}
-use Prim.Native.Nat.{ℕ, _^_, _<_}
+use Prim.Native.Nat.{ℕ}
 use native.Mathlib.Omega.{arith}
 use lib.ListN.{length}
-use Rattle.laws.specs.Refusals.{some-not-none, orElse-first, settle-none, settle-some}
-use Rattle.laws.specs.Search.{Refusal}
-use Rattle.table.specs.Acceptance.{accepting, validity-accepted, validity}
+use Rattle.laws.specs.Refusals.{settle-none, settle-some}
+use Rattle.table.specs.Acceptance.{accepting}
 use Rattle.table.specs.declared.Limits.{Limits}
 use Rattle.table.specs.declared.Validity.{Validity}
 use Rattle.table.specs.declared.Validity.the-variants.{Accepted, Refused}
-use Rattle.table.specs.Numbering.{Numbered}
-use Rattle.table.specs.Table.{shapeFault, treeFault, tableFault}
-use Rattle.table.specs.Parts.{Validated, Ready}
+use Rattle.table.specs.Parts.{Tested, fault, no-fault}
+use Rattle.table.specs.Parts as table
+use Rattle.table.specs.Table.{tableFault}
 use Rattle.slopes.specs.declared.Rule.{Rule}
 use Rattle.drawing.specs.declared.Framed.{Framed}
 use Rattle.drawing.specs.declared.Framed.the-variants as framed
 use Rattle.drawing.specs.CallLaws.{fresh-within}
 use Rattle.drawing.specs.Drawing.{Drawing, lengthsFit, fresh, frame, layout, OnDrawing}
+use Rattle.drawing.specs.DrawingLaws.{three-long}
 use Rattle.drawing.specs.FreshLaws.{Roomy}
-use Rattle.drawing.specs.Parts.{Framable, FramesFit, Prepared, Blank, fault, no-fault, sized, framable}
+use Rattle.drawing.specs.Parts.{Framable, FramesFit, Sized, Prepared, Blank, framable}
 
--- where the table is accepted, the work list may change
-never-spared : (L : Limits) (P R : List ℕ) (long : Bool) (work : ℕ) (f : Refusal) → tableFault L P R long work ≡ none
-    → shapeFault L P R long work ≡ some f → ⊥
-unfolding tableFault
-never-spared L P R long work f e g = some-not-none (sym (orElse-first _ (treeFault P R) g) ∙ e)
-
--- the table is tested, then numbered
-module _ (L : Limits) (P R : List ℕ) (s : Drawing) {long : Bool} {W X : List ℕ} {r : Validity}
-    (is : long ≡ lengthsFit P s) (v : Validated L P R long W X r) where
-  answer : r ≡ validity (tableFault L P R (lengthsFit P s) (length W))
-  answer = v .answer ∙ ap (λ b. validity (tableFault L P R b (length W))) is
-
-  pub prepared-refused : {k z : ℕ} → r ≡ Refused k z → Prepared L P R s W X (Refused k z)
-  prepared-refused e = record {
-    answer = sym e ∙ answer;
-    spared = subst (λ b. (f : Refusal) → shapeFault L P R b (length W) ≡ some f → X ≡ W) is (v .spared);
-    long = v .kept .long;
-    left = λ a. absurd (let z : _≡_ {A = ℕ} 0 1 = cc in omega arith);
-  }
-
-  none-left : r ≡ Accepted → tableFault L P R (lengthsFit P s) (length W) ≡ none
-  none-left e = validity-accepted _ (sym answer ∙ e)
-
-  pub prepared-ready : L .nodes < 2 ^ 32 → r ≡ Accepted → Ready P R X
-  prepared-ready few e =
-      let a = accepting L P R _ (length W) (none-left e) in
-      record {
-        tree = a .tree;
-        few = omega arith;
-        long = v .kept .long ∙ a .shape .work-long;
-        started = v .started e;
-      }
-
-  pub prepared-accepted : {Y : List ℕ} → L .nodes < 2 ^ 32 → r ≡ Accepted → Numbered P R Y
-      → Prepared L P R s W Y Accepted
-  prepared-accepted few e n =
-      let a = prepared-ready few e in
-      record {
-        answer = sym e ∙ answer;
-        spared = λ f g. absurd (never-spared L P R _ (length W) f (none-left e) g);
-        long = n .long ∙ sym (accepting L P R _ (length W) (none-left e) .shape .work-long);
-        left = λ q. record { tree = a .tree; few = a .few; numbers = n };
-      }
+-- a table's refusals, and its numbers, as those of a call on a drawing
+pub prepared : (P : List ℕ) (s : Drawing) {L : Limits} {R W X : List ℕ} {long : Bool} {r : Validity}
+    → long ≡ lengthsFit P s → table.Prepared L P R long W X r → Prepared L P R s W X r
+prepared P s {L} {R} {W} {X} {long} {r} is p =
+    subst (λ b. Tested L P R b W X (tableFault L P R b (length W)) (Sized P R s X) r) is
+    (record {
+      answer = p .answer;
+      spared = p .spared;
+      long = p .long;
+      left = λ e.
+          let all = accepting L P R long (length W) (no-fault p e) .shape .others in
+          let three = three-long (length P) s (sym is ∙ all) in
+          record { numbered = p .left e; times = three .0; x = three .1; y = three .2 };
+    })
 
 module _ {L : Limits} {P R : List ℕ} {s : Drawing} {W X : List ℕ} {r : Validity} (p : Prepared L P R s W X r) where
   pub blank : {rule : Rule} → Roomy L → FramesFit L → r ≡ Accepted → Blank P R rule s X
   blank {rule} room low e =
       let few = accepting L P R _ (length W) (no-fault p e) .shape .few in
       record {
-        sized = sized p e;
+        sized = p .left e;
         wide = omega (arith, room .across rule (length P) few);
         tall = omega (arith, room .up rule (length P) few);
       }

@@ -6,14 +6,14 @@
 --   layout-drawn   == so layout leaves one
 use mathlib.Core.Bool.{Bool, not}
 use mathlib.Core.List.{List}
-use mathlib.Core.Option.{Option, none, some}
-use mathlib.Core.Path.{_≡_, refl, sym, ap, subst, _∙_}
+use mathlib.Core.Option.{Option, none}
+use mathlib.Core.Path.{_≡_, sym, ap, subst, _∙_}
 use Prim.Native.Nat.{ℕ}
 use native.Mathlib.Omega.{arith}
 use lib.ListN.{length}
 use borrow.Author.Tests.{not-false}
-use Rattle.laws.specs.Refusals.{orElse-second, orElse-none, refuseLeast-no, refuseLeast-none}
-use Rattle.laws.specs.Search.{Refusal, Outcome, settle}
+use Rattle.laws.specs.Refusals.{orElse-second, orElse-none, refuseLeast-no, refuseLeast-none, settle-accepted}
+use Rattle.laws.specs.Search.{Refusal, settle}
 use Rattle.laws.specs.SearchLaws.{least-is}
 use Rattle.table.specs.Acceptance.{Accepting, accepting}
 use Rattle.table.specs.declared.Limits.{Limits}
@@ -29,10 +29,10 @@ use Rattle.drawing.specs.FreshLaws.{Roomy, fresh-drawn}
 -- whatever a call leaves
 pub settled : {S : Type 0} (old new : S) (a : Framed) (f : Option Refusal) {w h : ℕ} {s : S}
     → settle Refused f old a new ≡ record { answer = Frame w h; left = s } → (f ≡ none) × (new ≡ s)
-settled {S} old new a none e = (refl, ap (λ (o : Outcome Framed S). o .left) e)
-settled {S} old new a (some r) {w} {h} e =
-    absurd (let q : Refused (r .number) (r .node) ≡ Frame w h = ap (λ (o : Outcome Framed S). o .answer) e in
-    let z : _≡_ {A = ℕ} 0 1 = cc in omega arith)
+settled old new a f e =
+    let accepted = settle-accepted Refused old a new f
+    (λ k v q. absurd (let z : _≡_ {A = ℕ} 0 1 = cc in omega arith)) e in
+    (accepted .0, accepted .2)
 
 pub record Inspected (L : Limits) (P R : List ℕ) (rule : Rule) (s : Drawing) (work : ℕ) : Type 0 where
   pub table : tableFault L P R (lengthsFit P s) work ≡ none

@@ -4,6 +4,7 @@ pub mod SearchLaws
 pub mod Refusals
 pub mod Sums
 pub mod Regions
+pub mod Filling
 pub mod RingLaws
 pub mod Solver
 pub mod Signs

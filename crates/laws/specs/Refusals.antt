@@ -5,7 +5,7 @@ use mathlib.Core.Path.{_≡_, refl, sym, ap, _∙_}
 use Prim.Native.Nat.{ℕ, _≤_, _<_}
 use native.Mathlib.Omega.{arith}
 use borrow.Author.Tests.{lt-ltb, le-ltb, ltb-false}
-use Rattle.laws.specs.Search.{least, Refusal, refuse, refuseLeast, _orElse_, settle}
+use Rattle.laws.specs.Search.{least, Refusal, refuse, refuseLeast, _orElse_, Outcome, settle}
 use Rattle.laws.specs.SearchLaws.{least-none}
 use Rattle.laws.specs.Tests.{differ}
 
@@ -74,3 +74,9 @@ module _ {A S : Type 0} (refused : ℕ → ℕ → A) (old : S) (a : A) (new : S
   pub settle-some : (f : Option Refusal) {k v : ℕ} → f ≡ refusal k v
       → settle refused f old a new ≡ record { answer = refused k v; left = old }
   settle-some f e = ap (λ o. settle refused o old a new) e
+
+  -- where the answer is none of a refusal's, nothing was refused
+  pub settle-accepted : (f : Option Refusal) {b : A} {s : S} → ((k v : ℕ) → refused k v ≡ b → ⊥)
+      → settle refused f old a new ≡ record { answer = b; left = s } → (f ≡ none) × (a ≡ b) × (new ≡ s)
+  settle-accepted none other e = (refl, ap (λ (o : Outcome A S). o .answer) e, ap (λ (o : Outcome A S). o .left) e)
+  settle-accepted (some r) other e = absurd (other (r .number) (r .node) (ap (λ (o : Outcome A S). o .answer) e))

@@ -1,28 +1,19 @@
 -- Places within the limit, and the edges' parts that they give.
-use mathlib.Core.Bool.{Bool, true, false, _&&_}
+use mathlib.Core.Bool.{true, false}
 use mathlib.Core.List.{List}
-use mathlib.Core.Path.{_≡_, refl, subst⁻¹}
+use mathlib.Core.Path.{_≡_, subst⁻¹}
 use Prim.Native.Nat.{ℕ, _+_, _-_, _≤_, _<_}
 use native.Mathlib.Omega.{arith}
 use lib.Dec.{ltb}
 use lib.ListN.{length, getD, set}
 use borrow.Author.Tests.{lt-ltb, le-ltb, ltb-false}
 use Rattle.laws.specs.Regions.{Only, only-refl, only-set}
-use Rattle.laws.specs.Tests.{by-eq, differ, either-first, either-second, neither, neither-is}
+use Rattle.laws.specs.Tests.{by-eq, either-first, either-second, neither, neither-is}
 use Rattle.table.specs.Table.{parent}
 use Rattle.monotone.specs.Monotone.{placeBeyond}
 use Rattle.monotone.specs.Cones.{Part}
 use Rattle.monotone.specs.Parts.{NearPlaces, DrawnPart}
 use Rattle.monotone.proofs.Stores.{store-here, store-else}
-
-------------------------------------------------------------------------
--- Lengths
-
--- where the first test passes, the second decides
-pub second-decides : (a b : Bool) → a ≡ true → b ≡ a && (b && true)
-second-decides true true e = refl
-second-decides true false e = refl
-second-decides false b e = absurd (differ e refl)
 
 ------------------------------------------------------------------------
 -- Beyond the limit

@@ -6,13 +6,13 @@
 // neighbour's. The work list holds, of n numbers each, the cones, the parts across and up of the nodes' edges, and
 // the post-order. While u has its turn, the edges from u to the root are turned round, so that every edge is walked
 // away from u.
-ghost use mathlib.Core.List.{List, [], _∷_};
+ghost use mathlib.Core.List.{List};
 ghost use mathlib.Core.Path.{_≡_};
 ghost use Prim.Native.Nat.{ℕ, _+_, _-_, _*_, _≤_, _<_};
 ghost use lib.ListN.{length, getD, set};
 ghost use Rattle.laws.specs.Regions.{Only};
 ghost use Rattle.laws.specs.Search.{least};
-ghost use Rattle.table.specs.Table.{allLong, large, checked, farthest};
+ghost use Rattle.table.specs.Table.{large, checked, farthest};
 ghost use Rattle.table.specs.Parts.{Zeroed};
 ghost use Rattle.monotone.specs.Monotone.{placeBeyond, Checked};
 ghost use Rattle.monotone.specs.Plane.{cross, dot};
@@ -24,6 +24,7 @@ ghost use Rattle.monotone.specs.Cones.{Alone, Growing};
 ghost use Rattle.monotone.specs.Cones.{Grown};
 use table::Limits;
 use table::Validity;
+use table::both_long;
 use table::checked_limits;
 use table::clear;
 use table::get;
@@ -314,16 +315,6 @@ fn first_beyond(place: u32, x: &[u32], y: &[u32]) -> usize
     n
 }
 
-// Whether x and y are n long.
-fn both_long(x: &[u32], y: &[u32], n: usize) -> bool
-    ensures { λ r. ⌜ r ≡ allLong n (now (x .entry) ∷ now (y .entry) ∷ []) ⌝ }
-{
-    if x.len() != n {
-        return false;
-    }
-    y.len() == n
-}
-
 // The check of an accepted table with places within the limit.
 fn judge(parent: &[u32], rank: &[u32], x: &[u32], y: &[u32], work: &mut [u32]) -> Verdict
     requires { ⌜ Judged (now parent) (now rank) (now x) (now y) (now work) ⌝ }
@@ -350,7 +341,7 @@ fn check_within(
         (now (work .entry)) (now (work .exit)) r ⌝ }
 {
     let n = parent.len();
-    let long = both_long(x, y, n);
+    let long = both_long(n, x, y);
     match validate(limits, parent, rank, long, work) {
         Validity::Refused(number, node) => Verdict::Refused(number, node),
         Validity::Accepted => {

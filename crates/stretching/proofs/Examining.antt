@@ -1,5 +1,4 @@
 -- Refusals 1 to 8, then 9 and 10, from what the tests say.
-use mathlib.Core.Bool.{Bool, not}
 use mathlib.Core.List.{List}
 use mathlib.Core.Path.{_≡_, _∙_}
 use Prim.Native.Nat.{ℕ, _≤_, _<_}
@@ -11,9 +10,10 @@ use Rattle.laws.specs.Search.{least, refuse, refuseLeast, _orElse_}
 use Rattle.table.specs.declared.Limits.{Limits}
 use Rattle.table.specs.declared.Validity.{Validity}
 use Rattle.table.specs.declared.Validity.the-variants.{Accepted, Refused}
+use Rattle.table.specs.Parts.{fault, no-fault, refused-later, accepted-later}
 use Rattle.slopes.specs.declared.Rule.{Rule}
 use Rattle.drawing.specs.Drawing.{Drawing, drawingFault}
-use Rattle.drawing.specs.Parts.{Prepared, fault, no-fault, refused-later, accepted-later, sized}
+use Rattle.drawing.specs.Parts.{Prepared}
 use Rattle.stretching.specs.Parts.{misfit, Inspecting, Examining}
 use Rattle.stretching.specs.Stretching.{edgeFault, stretchFault}
 
@@ -33,7 +33,7 @@ module _ {L : Limits} {P R : List ℕ} (rule : Rule) {s : Drawing} {W X : List �
 
     pub inspecting-all : length P ≤ u → Inspecting L P R rule s W X Accepted
     inspecting-all h =
-        accepted-later p (past-7 ∙ refuseLeast-no 8 (length P) (misfit (L .place) P R rule s) u is h) (sized p ok)
+        accepted-later p (past-7 ∙ refuseLeast-no 8 (length P) (misfit (L .place) P R rule s) u is h) (p .left ok)
 
 module _ {L : Limits} {P R : List ℕ} (rule : Rule) {s : Drawing} {W X : List ℕ} {r : Validity}
     (p : Inspecting L P R rule s W X r) (v : ℕ) where

@@ -13,6 +13,7 @@ use Rattle.laws.specs.Tests.{by-test, differ}
 use Rattle.table.specs.declared.Limits.{Limits}
 use Rattle.table.specs.declared.Validity.{Validity}
 use Rattle.table.specs.declared.Validity.the-variants.{Accepted, Refused}
+use Rattle.table.specs.Parts.{no-fault, fault}
 use Rattle.table.specs.Table.{under}
 use Rattle.slopes.specs.declared.Rule.{Rule}
 use Rattle.slopes.specs.declared.Slope.{Slope}
@@ -21,7 +22,7 @@ use Rattle.drawing.specs.declared.Framed.{Framed}
 use Rattle.drawing.specs.declared.Framed.the-variants as framed
 use Rattle.drawing.specs.Drawing.{Drawing, lent, frame, redrawn, OnDrawing}
 use Rattle.drawing.specs.DrawingLaws.{Coordinate, Drawn, drawn-times, same-drawing}
-use Rattle.drawing.specs.Parts.{FramesFit, fault, no-fault}
+use Rattle.drawing.specs.Parts.{FramesFit}
 use Rattle.stretching.specs.CallLaws.{Examined, examined, beyond-no, beyond-x, beyond-y, no-beyond}
 use Rattle.stretching.specs.Parts.{by, Examining, Passes, Movable, Stretchable}
 use Rattle.stretching.specs.Stretching.{moved, stretched, beyond, stretchFault, lengthen, shorten}

@@ -19,11 +19,12 @@ use lib.ListN.{length, getD}
 use Rattle.table.specs.declared.Limits.{Limits}
 use Rattle.table.specs.declared.Validity.{Validity}
 use Rattle.table.specs.Numbering.{NumberedTree}
+use Rattle.table.specs.Parts.{Tested}
 use Rattle.table.specs.Table.{under}
 use Rattle.slopes.specs.declared.Rule.{Rule}
 use Rattle.slopes.specs.Slopes.{acrossOf, upOf, edge}
-use Rattle.drawing.specs.Drawing.{Drawing, nodeFits, drawingFault}
-use Rattle.drawing.specs.Parts.{Sized, Tested}
+use Rattle.drawing.specs.Drawing.{Drawing, lengthsFit, nodeFits, drawingFault}
+use Rattle.drawing.specs.Parts.{Sized}
 use Rattle.stretching.specs.Stretching.{stretchFault}
 
 abbrev pub by : Bool → ℕ → ℕ → ℕ
@@ -45,10 +46,10 @@ pub record AllFit (limit : ℕ) (P R : List ℕ) (rule : Rule) (s : Drawing) (r 
 
 module _ (L : Limits) (P R : List ℕ) (rule : Rule) (s : Drawing) (W : List ℕ) where
   abbrev pub Inspecting : List ℕ → Validity → Type 0
-  Inspecting X = Tested L P R s W X (drawingFault L P R rule s (length W)) (Sized P R s X)
+  Inspecting X = Tested L P R (lengthsFit P s) W X (drawingFault L P R rule s (length W)) (Sized P R s X)
 
   abbrev pub Examining : ℕ → List ℕ → Validity → Type 0
-  Examining v X = Tested L P R s W X (stretchFault L P R rule s (length W) v) (Sized P R s X)
+  Examining v X = Tested L P R (lengthsFit P s) W X (stretchFault L P R rule s (length W) v) (Sized P R s X)
 
 pub record Passes (limit : ℕ) (P X : List ℕ) (v d : ℕ) (r : Bool) : Type 0 where
   pub yes : r ≡ true → (z : ℕ) × (z < length P) × (under P v z ≡ true) × (limit < getD X z 0 + d)

@@ -1,4 +1,4 @@
--- What the work list holds while a table is tested and numbered. n is the length of P.
+-- What the work list holds while a table is tested and numbered, and what the tests answer. n is the length of P.
 --
 --   Scratch P W        == P's parents are nodes, and W has room for two numbers a node
 --   Zeroed a e W       == W is 0 from a up to e
@@ -12,23 +12,29 @@
 --   marked P W v       == the mark of v, at n + v, is set; that of node 0 is the number of all slots
 --   Marking P W        == node 0 is marked, and whoever is marked leads to node 0
 --   Reaching P W v k   == a climb of k steps from v comes to a marked node, and no shorter one does
+--   Copied l W a       == W holds the list l from a on
+--   Tested L .. f Left r == the answer r to a call on a table is refusal f; if there is none, Left holds then
+--   Prepared L .. r    == refusals 1 to 7; if none, the table is numbered
 use mathlib.Core.Bool.{Bool, true, false, _&&_}
 use mathlib.Core.List.{List}
-use mathlib.Core.Option.{Option, some}
-use mathlib.Core.Path.{_≡_}
+use mathlib.Core.Option.{Option, none, some}
+use mathlib.Core.Path.{_≡_, sym, ap, _∙_}
 use Prim.Native.Nat.{ℕ, _+_, _*_, _^_, _≤_, _<_}
+use native.Mathlib.Omega.{arith}
 use lib.Dec.{ltb, eqb}
 use lib.ListN.{length, getD}
+use Rattle.laws.specs.Refusals.{refusal}
 use Rattle.laws.specs.Regions.{Only}
 use Rattle.laws.specs.Search.{count, Refusal}
 use Rattle.laws.specs.Sums.{sum}
 use Rattle.table.specs.Children.{Nodes, slot}
 use Rattle.table.specs.declared.Limits.{Limits}
 use Rattle.table.specs.declared.Validity.{Validity}
-use Rattle.table.specs.declared.Validity.the-variants.{Accepted}
+use Rattle.table.specs.declared.Validity.the-variants.{Accepted, Refused}
 use Rattle.table.specs.Table.{parent, rank, climb, children, isChildAt, order, postNumber, firstNumber}
 use Rattle.table.specs.Table.{treeFault, shapeFault, tableFault}
-use Rattle.table.specs.Acceptance.{validity}
+use Rattle.table.specs.Acceptance.{validity, validity-accepted, validity-refused}
+use Rattle.table.specs.Numbering.{NumberedTree}
 use Rattle.table.specs.TableLaws.{Tree}
 
 -- the work list is left alone on these refusals
@@ -141,3 +147,46 @@ pub record Leftmost (P R : List ℕ) (v u : ℕ) : Type 0 where
 pub record Next (P R : List ℕ) (v u : ℕ) : Type 0 where
   pub inside : u < length P
   pub number : postNumber P R u ≡ postNumber P R v + 1
+
+-- W holds the list from a on
+pub record Copied (l W : List ℕ) (a : ℕ) : Type 0 where
+  pub same : (i : ℕ) → i < length l → getD W (a + i) 0 ≡ getD l i 0
+
+------------------------------------------------------------------------
+-- What a call's tests answer, one after the other
+
+-- others: the lists that are lent besides P and R are n long
+pub record Tested (L : Limits) (P R : List ℕ) (others : Bool) (W X : List ℕ) (fault : Option Refusal) (Left : Type 0)
+    (r : Validity) : Type 0 where
+  pub answer : r ≡ validity fault
+  pub spared : Spared (shapeFault L P R others (length W)) W X
+  pub long : length X ≡ length W
+  pub left : r ≡ Accepted → Left
+
+abbrev pub Prepared : Limits → List ℕ → List ℕ → Bool → List ℕ → List ℕ → Validity → Type 0
+Prepared L P R others W X = Tested L P R others W X (tableFault L P R others (length W)) (NumberedTree P R X)
+
+module _ {L : Limits} {P R : List ℕ} {others : Bool} {W X : List ℕ} {f : Option Refusal} {Left : Type 0} {r : Validity}
+    (p : Tested L P R others W X f Left r) where
+  pub no-fault : r ≡ Accepted → f ≡ none
+  no-fault e = validity-accepted _ (sym (p .answer) ∙ e)
+
+  pub fault : {k z : ℕ} → r ≡ Refused k z → f ≡ refusal k z
+  fault {k} {z} e = validity-refused _ k z (sym (p .answer) ∙ e)
+
+  -- a later refusal
+  pub refused-later : {g : Option Refusal} {Later : Type 0} {k z : ℕ} → g ≡ refusal k z
+      → Tested L P R others W X g Later (Refused k z)
+  unfolding validity
+  refused-later e = record {
+    answer = ap validity (sym e);
+    spared = p .spared;
+    long = p .long;
+    left = λ a. absurd (let q : _≡_ {A = ℕ} 0 1 = cc in omega arith);
+  }
+
+  -- and none
+  pub accepted-later : {g : Option Refusal} {Later : Type 0} → g ≡ none → Later
+      → Tested L P R others W X g Later Accepted
+  unfolding validity
+  accepted-later e x = record { answer = ap validity (sym e); spared = p .spared; long = p .long; left = λ a. x }

@@ -4,18 +4,18 @@
 // each node's children (at 0 to n), then how many nodes stand in each slot, and then marks (from n + 1 on). `number`
 // leaves the post numbers at 0, the first numbers of the subtrees at 2n and the post-order itself at 3n.
 ghost use mathlib.Core.Bool.{true};
+ghost use mathlib.Core.List.{[], _∷_};
 ghost use mathlib.Core.Path.{_≡_};
 ghost use Prim.Native.Nat.{_+_, _*_, _^_, _≤_, _<_};
 ghost use lib.ListN.{length, getD, set};
 ghost use Rattle.laws.specs.Regions.{Only};
 ghost use Rattle.laws.specs.Search.{least};
 ghost use Rattle.table.specs.Acceptance.{validity};
-ghost use Rattle.table.specs.Table.{climb, postNumber, strayParent, badRank, adrift, shapeFault};
+ghost use Rattle.table.specs.Table.{climb, postNumber, strayParent, badRank, adrift, allLong, shapeFault};
 ghost use Rattle.table.specs.Table.{large, checked, printed};
 ghost use Rattle.table.specs.Parts.{Scratch, Zeroed, Tallied, Started, Seating, Occupied, marked, Marking};
 ghost use Rattle.table.specs.Parts.{Reaching, Lengths, Rooted, Structured, Validated, Ready, Seated};
-ghost use Rattle.table.specs.Parts.{Leftmost, Next};
-ghost use Rattle.table.specs.Parts.{Visited};
+ghost use Rattle.table.specs.Parts.{Leftmost, Next, Visited, Copied, Prepared};
 ghost use Rattle.table.specs.Numbering.{Numbered, NumberedTree, Numbers};
 
 // What a call accepts: the most nodes and the largest place. `many` and `far` are refusal numbers: of more nodes, and
@@ -86,6 +86,31 @@ pub fn put(w: &mut [u32], i: usize, x: usize)
     ensures { λ _. ⌜ now (w .exit) ≡ set (now (w .entry)) i x ⌝ }
 {
     w[i] = x as u32;
+}
+
+// Copies what the work list holds from a on into the list.
+pub fn copy_out(work: &[u32], a: usize, list: &mut [u32])
+    requires { ⌜ a + length (now list) ≤ length (now work) ⌝ }
+    ensures { λ _. ⌜ Copied (now (list .exit)) (now (work .entry)) a
+        × (length (now (list .exit)) ≡ length (now (list .entry))) ⌝ }
+{
+    let n = list.len();
+    let mut i = 0;
+    while i < n {
+        let w = get(work, a + i);
+        put(list, i, w);
+        i += 1;
+    }
+}
+
+// Whether two lists are n long.
+pub fn both_long(n: usize, a: &[u32], b: &[u32]) -> bool
+    ensures { λ r. ⌜ r ≡ allLong n (now (a .entry) ∷ now (b .entry) ∷ []) ⌝ }
+{
+    if a.len() != n {
+        return false;
+    }
+    b.len() == n
 }
 
 // The smallest node with refusal 5, or n.
@@ -468,6 +493,26 @@ pub fn number(parent: &[u32], rank: &[u32], work: &mut [u32])
     fill(parent, rank, work);
     walk(parent, rank, work);
     invert(parent, rank, work);
+}
+
+// Refusals 1 to 7; an accepted table is numbered.
+pub fn prepare(
+    limits: Limits,
+    parent: &[u32],
+    rank: &[u32],
+    long: bool,
+    work: &mut [u32],
+) -> Validity
+    ensures { λ r. ⌜ Prepared limits (now (parent .entry)) (now (rank .entry)) long (now (work .entry))
+        (now (work .exit)) r ⌝ }
+{
+    match validate(limits, parent, rank, long, work) {
+        Validity::Refused(k, v) => Validity::Refused(k, v),
+        Validity::Accepted => {
+            number(parent, rank, work);
+            Validity::Accepted
+        }
+    }
 }
 
 // The node with number j, other than the root, in a numbered table.

@@ -1,4 +1,3 @@
-pub mod Copies
 pub mod Loading
 pub mod Opening
 pub mod Encoding

@@ -3,9 +3,10 @@ use mathlib.Core.Bool.{true}
 use mathlib.Core.List.{List}
 use mathlib.Core.Option.{Option, some}
 use mathlib.Core.Path.{_≡_, refl, sym, ap, ap₂, _∙_}
-use Prim.Native.Nat.{ℕ, _+_, _*_, _≤_}
+use Prim.Native.Nat.{ℕ, _+_, _*_, _≤_, _<_}
 use native.Mathlib.Omega.{arith}
 use lib.ListN.{length, getD}
+use lib.Seq.{ext-getD}
 use Rattle.laws.specs.Refusals.{orElse-second}
 use Rattle.laws.specs.Regions.{Only}
 use Rattle.laws.specs.Search.{Refusal}
@@ -15,15 +16,21 @@ use Rattle.table.specs.declared.Limits.{Limits}
 use Rattle.table.specs.declared.Validity.{Validity}
 use Rattle.table.specs.declared.Validity.the-variants.{Accepted}
 use Rattle.table.specs.Table.{treeFault, tableFault}
-use Rattle.table.specs.Parts.{Validated}
-use Rattle.treefile.specs.Parts.{Copied, Opened, Tabled}
+use Rattle.table.specs.Parts.{Copied, Validated}
+use Rattle.treefile.specs.Parts.{Opened, Tabled}
 use Rattle.treefile.specs.declared.Loaded.the-variants.{Table, Refused}
 use Rattle.treefile.specs.TreeFile.{wordAt, words, fileParents, fileRanks, loaded}
-use Rattle.treefile.proofs.Copies.{restored}
 
 pub length-words : (B : List ℕ) (i n : ℕ) → length (words B i n) ≡ n
 unfolding words
 length-words B i n = length-tabulate n (λ v. wordAt B (i + 4 * v))
+
+-- what was copied out, with stores elsewhere, and copied back is the same list
+restored : {l m W X : List ℕ} {a : ℕ} → Copied l W a
+    → ((i : ℕ) → i < length l → getD X (a + i) 0 ≡ getD W (a + i) 0)
+    → Copied m X a → length m ≡ length l → m ≡ l
+restored {l} {m} c kept d e =
+    ext-getD 0 m l e (λ i b. sym (d .same i b) ∙ kept i (omega arith) ∙ c .same i (omega arith))
 
 module _ {L : Limits} {B P R W W₁ W₂ : List ℕ} (o : Opened L B P R W)
     (s : Copied P W₁ (2 * length P) × Only (2 * length P) (2 * length P + length P) W W₁)

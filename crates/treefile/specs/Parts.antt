@@ -1,6 +1,5 @@
 -- What the reader and the writer pass through.
 --
---   Copied l W at        == W holds the list l from `at` on
 --   Opened L B P R W     == what refusals 16, 1, 2, 17 and 3 leave
 --   WordPut, Encoded     == a number's, and a list's, bytes stand from a place on
 --   Tabled B P R X Y r   == the answer r to an opened file, and the lists at exit
@@ -13,9 +12,6 @@ use Rattle.table.specs.declared.Limits.{Limits}
 use Rattle.table.specs.Table.{treeFault}
 use Rattle.treefile.specs.declared.Loaded.{Loaded}
 use Rattle.treefile.specs.TreeFile.{bytesOf, statedNodes, fileParents, fileRanks, loaded}
-
-pub record Copied (l W : List ℕ) (at : ℕ) : Type 0 where
-  pub same : (i : ℕ) → i < length l → getD W (at + i) 0 ≡ getD l i 0
 
 -- the 4 bytes of w from i on, and nothing else changed
 pub record WordPut (B C : List ℕ) (i w : ℕ) : Type 0 where

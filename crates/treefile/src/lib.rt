@@ -6,7 +6,8 @@ ghost use Prim.Native.Nat.{_+_, _*_, _^_, _≤_, _<_};
 ghost use lib.ListN.{length, getD};
 ghost use Rattle.laws.specs.Regions.{Only};
 ghost use Rattle.table.specs.Table.{large};
-ghost use Rattle.treefile.specs.Parts.{Copied, Opened, Tabled, WordPut, Encoded};
+ghost use Rattle.table.specs.Parts.{Copied};
+ghost use Rattle.treefile.specs.Parts.{Opened, Tabled, WordPut, Encoded};
 ghost use Rattle.treefile.specs.TreeFile.{wordAt, words, statedOrZero, Read, Wrote};
 
 // What the reader answers: the number of nodes, or a refusal with its number and node.
@@ -79,21 +80,6 @@ fn save(list: &[u32], work: &mut [u32], a: usize)
     }
 }
 
-// Copies the work list from a on back into the list.
-fn restore(work: &[u32], a: usize, list: &mut [u32])
-    requires { ⌜ a + length (now list) ≤ length (now work) ⌝ }
-    ensures { λ _. ⌜ Copied (now (list .exit)) (now (work .entry)) a
-        × (length (now (list .exit)) ≡ length (now (list .entry))) ⌝ }
-{
-    let n = list.len();
-    let mut i = 0;
-    while i < n {
-        let w = table::get(work, a + i);
-        table::put(list, i, w);
-        i += 1;
-    }
-}
-
 // Loads the file's table into the two lists, keeping what they held in the work list, and puts that back where the
 // table is refused.
 fn load(
@@ -115,8 +101,8 @@ fn load(
     match table::validate(limits, parent, rank, true, work) {
         Validity::Accepted => Loaded::Table(n as u32),
         Validity::Refused(k, v) => {
-            restore(work, 2 * n, parent);
-            restore(work, 3 * n, rank);
+            table::copy_out(work, 2 * n, parent);
+            table::copy_out(work, 3 * n, rank);
             Loaded::Refused(k, v)
         }
     }

@@ -1,7 +1,6 @@
 -- Refusals 1 to 7, then 8.
 use native.Mathlib.Omega.{arith}
 use borrow.Author.Needs.{needs}
-use Rattle.drawing.specs.Parts.{sized}
 use Rattle.stretching.proofs.Examining.{inspecting-table, inspecting-8, inspecting-all}
 use Rattle.stretching.proofs.inspect.Statement.{statement}
 use Rattle.stretching.proofs.inspect.Tie as tie
@@ -15,12 +14,12 @@ told c = c .before .before
 first-misfit-requires : tie.Need-first-misfit-requires
 first-misfit-requires c κs =
     let accepted = c .before in
-    sized (prepared accepted .prepare .ensures) (accepted .enum-told .given .1)
+    prepared accepted .prepare .ensures .left (accepted .enum-told .given .1)
 
 cast-t21 : tie.Need-cast-t21
 cast-t21 c =
     let accepted = told (c .before) in
-    let few = sized (prepared accepted .prepare .ensures) (accepted .enum-told .given .1) .numbered .few in
+    let few = prepared accepted .prepare .ensures .left (accepted .enum-told .given .1) .numbered .few in
     omega arith
 
 returns : tie.Need-returns

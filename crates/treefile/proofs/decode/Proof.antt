@@ -4,7 +4,7 @@ use mathlib.Core.Path.{_∙_, refl, ap}
 use native.Mathlib.Omega.{arith}
 use lib.ListN.{length, set}
 use Rattle.treefile.specs.TreeFile.{wordAt, words}
-use Rattle.treefile.proofs.Copies.{Filled, filled-start, filled-step, filled-all}
+use Rattle.laws.specs.Filling.{Filled, filled-start, filled-step, filled-all}
 use Rattle.treefile.proofs.decode.Statement.{statement}
 use Rattle.treefile.proofs.decode.Tie as tie
 

@@ -23,35 +23,35 @@ module _ (c : tie.After-validate) where
   start = parents-saved .before .before .before .before .before .before .before
 
 -- once the table is refused and the parents are put back
-module _ (c : tie.After-restore) where
+module _ (c : tie.After-copy-out) where
   abbrev refused : tie.After-k
   refused = c .before .before .before .before
 
   abbrev validated : tie.After-validate
   validated = refused .before .before .before .before
 
-abbrev parents-back : tie.After-restore2 → tie.After-restore
+abbrev parents-back : tie.After-copy-out2 → tie.After-copy-out
 parents-back c = c .before .before .before .before .before
 
-mul-restore : tie.Need-mul-restore
-mul-restore c =
+mul-copy-out : tie.Need-mul-copy-out
+mul-copy-out c =
     let at-entry = start (c .before .before .before .before .before .before) in
     omega arith
 
-restore-requires : tie.Need-restore-requires
-restore-requires c κs =
+copy-out-requires : tie.Need-copy-out-requires
+copy-out-requires c κs =
     let at-validate = c .before .before .before .before .before .before .before in
     parents-room (start at-validate .pre) (parents-saved at-validate .save .ensures)
     (ranks-saved at-validate .save2 .ensures) (parents-read at-validate .decode .ensures)
     (ranks-read at-validate .decode2 .ensures) (at-validate .validate .ensures)
 
-mul-restore-2 : tie.Need-mul-restore-2
-mul-restore-2 c =
+mul-copy-out-2 : tie.Need-mul-copy-out-2
+mul-copy-out-2 c =
     let at-entry = start (validated (c .before .before .before)) in
     omega arith
 
-restore-requires-2 : tie.Need-restore-requires-2
-restore-requires-2 c κs =
+copy-out-requires-2 : tie.Need-copy-out-requires-2
+copy-out-requires-2 c κs =
     let at-validate = validated (c .before .before .before .before) in
     ranks-room (start at-validate .pre) (parents-saved at-validate .save .ensures)
     (ranks-saved at-validate .save2 .ensures) (parents-read at-validate .decode .ensures)
@@ -78,17 +78,17 @@ returns-2 c =
     loaded-refused (start at-validate .pre) (parents-saved at-validate .save .ensures)
     (ranks-saved at-validate .save2 .ensures) (parents-read at-validate .decode .ensures)
     (ranks-read at-validate .decode2 .ensures) (at-validate .validate .ensures)
-    (parents-back ranks-back .restore .ensures) (ranks-back .restore2 .ensures)
+    (parents-back ranks-back .copy-out .ensures) (ranks-back .copy-out2 .ensures)
     (refused (parents-back ranks-back) .k .given .1)
 
 pub load-spec : {M : Type 1} → statement M
 load-spec = tie.close (tie.spec (λ c. search needs) (λ c κs. search needs) (λ c. search needs) (λ c κs. search needs)
     (λ c κs. search needs) (λ c. search needs) (λ c. search needs) (λ c κs. search needs) (λ c κs. search needs)
     (λ c. search needs) (λ c. omega arith) (λ c. search needs)
-    mul-restore
-    restore-requires
-    mul-restore-2
-    restore-requires-2 (λ c. search needs) (λ c. search needs) (λ c. search needs)
+    mul-copy-out
+    copy-out-requires
+    mul-copy-out-2
+    copy-out-requires-2 (λ c. search needs) (λ c. search needs) (λ c. search needs)
     returns (λ c. search needs) (λ c. search needs)
     same-length-6
     returns-2)

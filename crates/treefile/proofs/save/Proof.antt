@@ -2,7 +2,7 @@
 use Prim.Native.Nat.{_-_}
 use native.Mathlib.Omega.{arith}
 use lib.ListN.{length, getD}
-use Rattle.treefile.proofs.Copies.{Filled, filled-start, filled-step}
+use Rattle.laws.specs.Filling.{Filled, filled-start, filled-step}
 use Rattle.treefile.proofs.save.Statement.{statement}
 use Rattle.treefile.proofs.save.Tie as tie
 

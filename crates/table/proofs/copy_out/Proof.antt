@@ -1,11 +1,11 @@
--- The first i numbers are copied back.
+-- The first i numbers are copied.
 use Prim.Native.Nat.{ℕ, _+_, _-_}
 use mathlib.Core.Path.{_∙_, ap, sym}
 use native.Mathlib.Omega.{arith}
 use lib.ListN.{length, getD, set}
-use Rattle.treefile.proofs.Copies.{Filled, filled-start, filled-step, zero-plus}
-use Rattle.treefile.proofs.restore.Statement.{statement}
-use Rattle.treefile.proofs.restore.Tie as tie
+use Rattle.laws.specs.Filling.{Filled, filled-start, filled-step, zero-plus}
+use Rattle.table.proofs.copy_out.Statement.{statement}
+use Rattle.table.proofs.copy_out.Tie as tie
 
 abbrev Inv-loop : tie.InvT-loop
 Inv-loop work a list₀ n i₀ list i = Filled (λ i. getD work (a + i) 0) 0 (length list₀) list₀ list i
@@ -34,6 +34,6 @@ returns c = (
   c .before .loop .inv .kept .long,
 )
 
-pub restore-spec : {M : Type 1} → statement M
-restore-spec = tie.close (tie.spec Inv-loop μ-loop loop-holds (λ c. omega arith) (λ c κs. omega arith)
+pub copy-out-spec : {M : Type 1} → statement M
+copy-out-spec = tie.close (tie.spec Inv-loop μ-loop loop-holds (λ c. omega arith) (λ c κs. omega arith)
     (λ c κs. omega arith) (λ c. omega arith) (λ c. omega arith) loop-again (λ c. omega arith) returns)

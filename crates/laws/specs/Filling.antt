@@ -1,14 +1,14 @@
--- Loops that fill a list number by number: f gives what is to stand at each place, and below i it does.
+-- Loops that fill a list number by number.
+--
+--   Filled f a n W X i   == X is W but for the n numbers from a on, of which the first i are f 0, f 1, ..
 use mathlib.Core.List.{List}
-use mathlib.Core.Path.{_≡_, sym, ap, _∙_}
+use mathlib.Core.Path.{_≡_, ap, _∙_}
 use Prim.Native.Nat.{ℕ, _+_, _≤_, _<_}
 use native.Mathlib.Omega.{arith}
 use lib.ListN.{length, getD, set}
-use lib.Seq.{ext-getD}
 use Rattle.laws.specs.Regions.{Only, read-set, only-refl, only-set}
 use Rattle.laws.specs.Search.{tabulate}
 use Rattle.laws.specs.SearchLaws.{tabulate-is}
-use Rattle.treefile.specs.Parts.{Copied}
 
 pub record Filled (f : ℕ → ℕ) (a n : ℕ) (W X : List ℕ) (i : ℕ) : Type 0 where
   pub upto : i ≤ n
@@ -40,10 +40,3 @@ pub filled-all : {f : ℕ → ℕ} {n : ℕ} {W X : List ℕ} {i : ℕ} → Fill
     → X ≡ tabulate n f
 filled-all {f} {n} {W} {X} {i} p h e =
     tabulate-is X n f (p .kept .long ∙ e) (λ k l. ap (λ (j : ℕ). getD X j 0) (zero-plus k) ∙ p .done k (omega arith))
-
--- what was copied out, with stores elsewhere, and copied back is the same list
-pub restored : {l m W X : List ℕ} {a : ℕ} → Copied l W a
-    → ((i : ℕ) → i < length l → getD X (a + i) 0 ≡ getD W (a + i) 0)
-    → Copied m X a → length m ≡ length l → m ≡ l
-restored {l} {m} c kept d e =
-    ext-getD 0 m l e (λ i b. sym (d .same i b) ∙ kept i (omega arith) ∙ c .same i (omega arith))
