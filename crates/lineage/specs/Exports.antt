@@ -4,7 +4,7 @@
 -- three long it does nothing at all.
 --
 --   ruleOf balanced          == the rule that a bool stands for
---   framedReply a, ..        == the three numbers of an answer: 0, number, node where it refuses
+--   countedReply a, ..       == the three numbers of an answer: 0, number, node where it refuses
 --   Short a                  == the number of bytes that the writer answers fits 32 bits
 --   Answered C reply q       == q is the reply of an answer that keeps the contract C
 --   Exported C reply K q s b == b says whether the reply q at entry is three long: then s at exit is the reply of an
@@ -15,6 +15,8 @@ use mathlib.Core.Path.{_≡_}
 use Prim.Native.Nat.{ℕ, _^_, _<_}
 use lib.IntN.{ℤ, pos}
 use lib.ListN.{length}
+use Rattle.table.specs.declared.Counted.{Counted}
+use Rattle.table.specs.declared.Counted.the-variants as counted
 use Rattle.slopes.specs.declared.Rule.{Rule}
 use Rattle.slopes.specs.declared.Rule.the-variants.{Steep, Balanced}
 use Rattle.drawing.specs.declared.Framed.{Framed}
@@ -23,8 +25,6 @@ use Rattle.direction.specs.declared.Heading.{Heading}
 use Rattle.direction.specs.declared.Heading.the-variants as heading
 use Rattle.monotone.specs.declared.Verdict.{Verdict}
 use Rattle.monotone.specs.declared.Verdict.the-variants as verdict
-use Rattle.treefile.specs.declared.Loaded.{Loaded}
-use Rattle.treefile.specs.declared.Loaded.the-variants as loaded
 use Rattle.treefile.specs.declared.Saved.{Saved}
 use Rattle.treefile.specs.declared.Saved.the-variants as saved
 
@@ -41,6 +41,10 @@ three a b c = a ∷ b ∷ c ∷ []
 abbrev pub refusedReply : ℕ → ℕ → List ℤ
 refusedReply number node = three (pos 0) (pos number) (pos node)
 
+unfoldable pub countedReply : Counted → List ℤ
+countedReply (counted.Nodes n) = three (pos 1) (pos n) (pos 0)
+countedReply (counted.Refused number node) = refusedReply number node
+
 unfoldable pub framedReply : Framed → List ℤ
 framedReply (framed.Frame width height) = three (pos 1) (pos width) (pos height)
 framedReply (framed.Refused number node) = refusedReply number node
@@ -53,10 +57,6 @@ unfoldable pub verdictReply : Verdict → List ℤ
 verdictReply verdict.Monotone = three (pos 1) (pos 0) (pos 0)
 verdictReply (verdict.Turns u v) = three (pos 2) (pos u) (pos v)
 verdictReply (verdict.Refused number node) = refusedReply number node
-
-unfoldable pub loadedReply : Loaded → List ℤ
-loadedReply (loaded.Table n) = three (pos 1) (pos n) (pos 0)
-loadedReply (loaded.Refused number node) = refusedReply number node
 
 unfoldable pub savedReply : Saved → List ℤ
 savedReply (saved.Bytes bytes) = three (pos 1) (pos bytes) (pos 0)

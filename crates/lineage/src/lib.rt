@@ -6,7 +6,7 @@ use direction::Heading;
 use drawing::Framed;
 use monotone::Verdict;
 use slopes::Rule;
-use treefile::Loaded;
+use table::Counted;
 use treefile::Saved;
 ghost use mathlib.Core.Path.{_≡_};
 ghost use lib.IntN.{pos};
@@ -17,7 +17,7 @@ ghost use Rattle.stretching.specs.Stretching.{lengthen, shorten};
 ghost use Rattle.direction.specs.Direction.{Directed};
 ghost use Rattle.monotone.specs.Monotone.{Checked};
 ghost use Rattle.treefile.specs.TreeFile.{statedOrZero, Read, Wrote};
-ghost use Rattle.lineage.specs.Exports.{ruleOf, three, framedReply, headingReply, verdictReply, loadedReply};
+ghost use Rattle.lineage.specs.Exports.{ruleOf, three, countedReply, framedReply, headingReply, verdictReply};
 ghost use Rattle.lineage.specs.Exports.{savedReply, Short, Exported};
 
 // The rule that a bool stands for.
@@ -57,6 +57,16 @@ fn put_along(reply: &mut [i64], d: i32, e: i32)
     put_three(reply, 1, d as i64, e as i64);
 }
 
+fn put_counted(reply: &mut [i64], answer: Counted)
+    requires { ⌜ length (now reply) ≡ 3 ⌝ }
+    ensures { λ _. ⌜ now (reply .exit) ≡ countedReply answer ⌝ }
+{
+    match answer {
+        Counted::Nodes(n) => put_numbers(reply, 1, n, 0),
+        Counted::Refused(number, node) => put_numbers(reply, 0, number, node),
+    }
+}
+
 fn put_framed(reply: &mut [i64], answer: Framed)
     requires { ⌜ length (now reply) ≡ 3 ⌝ }
     ensures { λ _. ⌜ now (reply .exit) ≡ framedReply answer ⌝ }
@@ -85,16 +95,6 @@ fn put_verdict(reply: &mut [i64], answer: Verdict)
         Verdict::Monotone => put_numbers(reply, 1, 0, 0),
         Verdict::Turns(u, v) => put_numbers(reply, 2, u, v),
         Verdict::Refused(number, node) => put_numbers(reply, 0, number, node),
-    }
-}
-
-fn put_loaded(reply: &mut [i64], answer: Loaded)
-    requires { ⌜ length (now reply) ≡ 3 ⌝ }
-    ensures { λ _. ⌜ now (reply .exit) ≡ loadedReply answer ⌝ }
-{
-    match answer {
-        Loaded::Table(n) => put_numbers(reply, 1, n, 0),
-        Loaded::Refused(number, node) => put_numbers(reply, 0, number, node),
     }
 }
 
@@ -301,7 +301,7 @@ pub extern "C" fn lineage_read_tree(
     ensures { λ b. ⌜ Exported
         (Read large (now (bytes .entry)) (now (parent .entry)) (now (rank .entry)) (now (work .entry))
         (now (parent .exit)) (now (rank .exit)) (now (work .exit)))
-        loadedReply
+        countedReply
         ((now (parent .exit) ≡ now (parent .entry)) × (now (rank .exit) ≡ now (rank .entry))
         × (now (work .exit) ≡ now (work .entry)))
         (now (reply .entry)) (now (reply .exit)) b ⌝ }
@@ -310,7 +310,7 @@ pub extern "C" fn lineage_read_tree(
         return false;
     }
     let answer = treefile::read_tree(bytes, parent, rank, work);
-    put_loaded(reply, answer);
+    put_counted(reply, answer);
     true
 }
 

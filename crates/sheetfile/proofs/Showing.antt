@@ -8,6 +8,7 @@ use lib.ListN.{length, length-replicate}
 use Rattle.laws.specs.Refusals.{orElse-second}
 use Rattle.laws.specs.SearchLaws.{length-tabulate}
 use Rattle.table.specs.Acceptance.{shape-fits}
+use Rattle.table.specs.declared.Counted.{Counted}
 use Rattle.table.specs.declared.Limits.{Limits}
 use Rattle.table.specs.Table.{large, shapeFault, treeFault, tableFault, printed}
 use Rattle.slopes.specs.declared.Rule.{Rule}
@@ -18,7 +19,6 @@ use Rattle.laws.specs.Search.{Outcome}
 use Rattle.drawing.specs.declared.Framed.the-variants as framed
 use Rattle.drawing.specs.Drawing.{Drawing, lengthsFit, lent, fresh, freshPlaces, frame, layout}
 use Rattle.drawing.specs.DrawingLaws.{all-three}
-use Rattle.treefile.specs.declared.Loaded.{Loaded}
 use Rattle.treefile.specs.TreeFile.{statedNodes, Read}
 use Rattle.text.specs.Text.{sheetOf, Appended}
 use Rattle.text.specs.TextLaws.{appended-is}
@@ -97,6 +97,6 @@ module _ {B X Y : List ℕ} (t : Taken B X Y) where
         ∙ sym (accepted-text t))
 
 -- the reader was called with the program's limits
-pub at-limits : {L : Limits} (B P R W : List ℕ) {X Y Z : List ℕ} {r : Loaded} → L ≡ printed → Read L B P R W X Y Z r
+pub at-limits : {L : Limits} (B P R W : List ℕ) {X Y Z : List ℕ} {r : Counted} → L ≡ printed → Read L B P R W X Y Z r
     → Read printed B P R W X Y Z r
 at-limits B P R W {X} {Y} {Z} {r} e d = subst (λ (L : Limits). Read L B P R W X Y Z r) e d

@@ -20,9 +20,9 @@ use Rattle.laws.specs.Refusals.{refusal, some-not-none, orElse-first, orElse-se
 use Rattle.laws.specs.Refusals.{refuse-no, refuse-none}
 use Rattle.laws.specs.Search.{Refusal, refuse, _orElse_}
 use Rattle.laws.specs.SearchLaws.{length-tabulate}
+use Rattle.table.specs.declared.Counted.{Counted}
+use Rattle.table.specs.declared.Counted.the-variants.{Nodes, Refused}
 use Rattle.table.specs.Table.{treeFault, printed}
-use Rattle.treefile.specs.declared.Loaded.{Loaded}
-use Rattle.treefile.specs.declared.Loaded.the-variants.{Table, Refused}
 use Rattle.treefile.specs.TreeFile.{wordAt, words, statedNodes, fileParents, fileRanks, openFault, Lists, loaded}
 use Rattle.treefile.specs.TreeFile.{readTree, Read}
 use Rattle.text.specs.Text.{sheetOf, refusalOf}
@@ -112,7 +112,7 @@ loaded-refused (some r) B P R {k} {v} e =
     let b : r .node ≡ v = cc in
     ap₂ refusal a b
 
-loaded-table : (f : Option Refusal) (B P R : List ℕ) {n : ℕ} → loaded f B P R .answer ≡ Table n → f ≡ none
+loaded-table : (f : Option Refusal) (B P R : List ℕ) {n : ℕ} → loaded f B P R .answer ≡ Nodes n → f ≡ none
 unfolding loaded
 loaded-table none B P R e = refl
 loaded-table (some r) B P R e = absurd (let z : _≡_ {A = ℕ} 0 1 = cc in omega arith)
@@ -131,7 +131,7 @@ pub record Taken (B X Y : List ℕ) : Type 0 where
   pub parents : X ≡ fileParents B
   pub ranks : Y ≡ fileRanks B
 
-module _ (B P R W : List ℕ) {X Y Z : List ℕ} {r : Loaded} (d : Read printed B P R W X Y Z r)
+module _ (B P R W : List ℕ) {X Y Z : List ℕ} {r : Counted} (d : Read printed B P R W X Y Z r)
     (ep : length P ≡ lotsIn (length B))
     (er : length R ≡ lotsIn (length B)) (ew : length W ≡ 4 * lotsIn (length B)) where
   answered : record { answer = r; parents = X; ranks = Y } ≡ loaded (fileFault B) B P R
@@ -146,7 +146,7 @@ module _ (B P R W : List ℕ) {X Y Z : List ℕ} {r : Loaded} (d : Read printed 
       text-refusal (fileFault B) B
       (loaded-refused (fileFault B) B P R (sym (ap (λ (l : Lists). l .answer) answered) ∙ e))
 
-  pub taken : {k : ℕ} → r ≡ Table k → Taken B X Y
+  pub taken : {k : ℕ} → r ≡ Nodes k → Taken B X Y
   taken e =
       let fits : fileFault B ≡ none =
       loaded-table (fileFault B) B P R (sym (ap (λ (l : Lists). l .answer) answered) ∙ e) in

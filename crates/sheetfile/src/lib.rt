@@ -1,10 +1,10 @@
 // From a tree file's bytes to the text that the program `sheet` prints.
 use drawing::layout;
 use slopes::Rule;
+use table::Counted;
 use table::printed_limits;
 use text::put_refusal;
 use text::put_sheet;
-use treefile::Loaded;
 use treefile::read_tree_within;
 ghost use mathlib.Core.Path.{_≡_};
 ghost use lib.ListN.{length};
@@ -41,8 +41,8 @@ fn fitted_text(
 {
     let limits = printed_limits();
     match read_tree_within(limits, bytes, parent, rank, work) {
-        Loaded::Refused(number, lot) => put_refusal(out, number, lot),
-        Loaded::Table(_) => {
+        Counted::Refused(number, lot) => put_refusal(out, number, lot),
+        Counted::Nodes(_) => {
             layout(Rule::Steep, parent, rank, times, x, y, work);
             layout(Rule::Balanced, parent, rank, times, u, w, work);
             put_sheet(out, x, y, u, w)

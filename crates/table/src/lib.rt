@@ -33,6 +33,12 @@ pub enum Validity {
     Refused(u32, u32),
 }
 
+// What a call that fills lists answers: the number of nodes, or a refusal's number and node.
+pub enum Counted {
+    Nodes(u32),
+    Refused(u32, u32),
+}
+
 const FARTHEST: u32 = 2147483647;
 
 // The limits of every call but the check.

@@ -12,13 +12,13 @@ use Rattle.laws.specs.Regions.{Only}
 use Rattle.laws.specs.Search.{Refusal}
 use Rattle.laws.specs.SearchLaws.{length-tabulate}
 use Rattle.table.specs.Acceptance.{Shape, shape-fits, validity-accepted, validity-refused}
+use Rattle.table.specs.declared.Counted.the-variants.{Nodes, Refused}
 use Rattle.table.specs.declared.Limits.{Limits}
 use Rattle.table.specs.declared.Validity.{Validity}
 use Rattle.table.specs.declared.Validity.the-variants.{Accepted}
 use Rattle.table.specs.Table.{treeFault, tableFault}
 use Rattle.table.specs.Parts.{Copied, Validated}
 use Rattle.treefile.specs.Parts.{Opened, Tabled}
-use Rattle.treefile.specs.declared.Loaded.the-variants.{Table, Refused}
 use Rattle.treefile.specs.TreeFile.{wordAt, words, fileParents, fileRanks, loaded}
 
 pub length-words : (B : List ℕ) (i n : ℕ) → length (words B i n) ≡ n
@@ -68,11 +68,11 @@ module _ {L : Limits} {B P R W W₁ W₂ : List ℕ} (o : Opened L B P R W)
       unfolding tableFault
       fault-is = orElse-second _ _ (shape-fits shape) ∙ ap₂ treeFault parents-are ranks-are
 
-      pub loaded-accepted : v ≡ Accepted → Tabled B P R P₁ R₁ (Table (length P))
+      pub loaded-accepted : v ≡ Accepted → Tabled B P R P₁ R₁ (Nodes (length P))
       unfolding loaded
       loaded-accepted e = record {
         outcome =
-            (λ i. record { answer = Table (sym (o .stated) i); parents = parents-are i; ranks = ranks-are i })
+            (λ i. record { answer = Nodes (sym (o .stated) i); parents = parents-are i; ranks = ranks-are i })
             ∙ sym (ap (λ (f : Option Refusal). loaded f B P R)
             (sym fault-is ∙ validity-accepted _ (sym (c .answer) ∙ e)));
       }

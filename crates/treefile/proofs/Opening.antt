@@ -11,10 +11,10 @@ use borrow.Author.Tests.{lt-ltb, le-ltb, eq-eqb, ne-eqb}
 use Rattle.laws.specs.Refusals.{refusal, some-not-none, orElse-first, orElse-second, refuse-yes, refuse-no}
 use Rattle.laws.specs.Search.{Refusal, refuse}
 use Rattle.laws.specs.Tests.{both-is}
+use Rattle.table.specs.declared.Counted.{Counted}
+use Rattle.table.specs.declared.Counted.the-variants.{Refused}
 use Rattle.table.specs.declared.Limits.{Limits}
 use Rattle.treefile.specs.Parts.{Opened, Tabled}
-use Rattle.treefile.specs.declared.Loaded.{Loaded}
-use Rattle.treefile.specs.declared.Loaded.the-variants.{Refused}
 use Rattle.treefile.specs.TreeFile.{wordAt, statedNodes, openFault, loaded, readTree, Read}
 
 module _ (L : Limits) (B P R W : List ℕ) where
@@ -113,7 +113,7 @@ module _ (L : Limits) (B P R W : List ℕ) where
                 (both-is (eq-eqb (length R) (statedNodes B) (r ∙ sym stated))
                 (eq-eqb (length W) (4 * statedNodes B) (w ∙ ap (λ (x : ℕ). 4 * x) (sym stated))))))
 
-            pub read : {X Y Z : List ℕ} {a : Loaded} → length Z ≡ length W → Tabled B P R X Y a
+            pub read : {X Y Z : List ℕ} {a : Counted} → length Z ≡ length W → Tabled B P R X Y a
                 → Read L B P R W X Y Z a
             unfolding readTree
             read same c = record {

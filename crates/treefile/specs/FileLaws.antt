@@ -19,9 +19,9 @@ use Rattle.laws.specs.Search.{Refusal, refuse, _orElse_}
 use Rattle.laws.specs.SearchLaws.{length-tabulate, getD-tabulate, tabulate-is}
 use Rattle.laws.specs.Tests.{by-lt, both-is}
 use Rattle.table.specs.Acceptance.{accepting}
+use Rattle.table.specs.declared.Counted.the-variants.{Nodes, Refused}
 use Rattle.table.specs.declared.Limits.{Limits}
 use Rattle.table.specs.Table.{shapeFault, treeFault, tableFault}
-use Rattle.treefile.specs.declared.Loaded.the-variants.{Table, Refused}
 use Rattle.treefile.specs.TreeFile.{wordAt, words, bytesOf, allBytes, statedNodes, fileParents, fileRanks}
 use Rattle.treefile.specs.TreeFile.{fileOf, openFault, Lists, loaded, readTree}
 
@@ -229,14 +229,14 @@ file-long L B p r work e =
     let d = orElse-none (refuse (not (eqb (length B) (4 + 8 * statedNodes B))) 17 0) _ (c .1) in
     eqb-true (length B) (4 + 8 * statedNodes B) (not-false _ (refuse-none _ 17 0 (d .0)))
 
-refused-not-table : {k v n : ℕ} → Refused k v ≡ Table n → ⊥
+refused-not-table : {k v n : ℕ} → Refused k v ≡ Nodes n → ⊥
 refused-not-table e = let z : _≡_ {A = ℕ} 0 1 = cc in omega arith
 
 -- lent lists of the right lengths get back the table whose file was written
 pub read-written : (L : Limits) (P R : List ℕ) (work : ℕ) → tableFault L P R true work ≡ none → length P < 2 ^ 32
     → ((v : ℕ) → v < length P → getD P v 0 < 2 ^ 32) → ((v : ℕ) → v < length P → getD R v 0 < 2 ^ 32)
     → (X Y : List ℕ) → length X ≡ length P → length Y ≡ length P
-    → readTree L (fileOf P R) X Y work ≡ record { answer = Table (length P); parents = P; ranks = R }
+    → readTree L (fileOf P R) X Y work ≡ record { answer = Nodes (length P); parents = P; ranks = R }
 unfolding readTree loaded openFault
 read-written L P R work e few p r X Y ex ey =
     let a = accepting L P R true work e in
@@ -258,11 +258,11 @@ read-written L P R work e few p r X Y ex ey =
     let right : treeFault (fileParents (fileOf P R)) (fileRanks (fileOf P R)) ≡ none =
     ap₂ treeFault parents ranks ∙ no-tree-fault L P R work e in
     ap (λ (f : Option Refusal). loaded f (fileOf P R) X Y) (orElse-second _ _ fits ∙ right)
-    ∙ (λ i. record { answer = Table (stated i); parents = parents i; ranks = ranks i })
+    ∙ (λ i. record { answer = Nodes (stated i); parents = parents i; ranks = ranks i })
 
 -- an accepted file is the one that writing its table gives
 pub written-read : (L : Limits) (B P R : List ℕ) (work : ℕ) → ((k : ℕ) → getD B k 0 < 256)
-    → (n : ℕ) (X Y : List ℕ) → readTree L B P R work ≡ record { answer = Table n; parents = X; ranks = Y }
+    → (n : ℕ) (X Y : List ℕ) → readTree L B P R work ≡ record { answer = Nodes n; parents = X; ranks = Y }
     → fileOf X Y ≡ B
 unfolding readTree loaded
 written-read L B P R work bytes n X Y e =
@@ -273,11 +273,11 @@ written-read L B P R work bytes n X Y e =
         → fileOf X Y ≡ B
     go none h =
         let open-fits = orElse-none _ _ h .0 in
-        let lists : loaded none B P R ≡ record { answer = Table n; parents = X; ranks = Y } =
+        let lists : loaded none B P R ≡ record { answer = Nodes n; parents = X; ranks = Y } =
         sym (ap (λ (f : Option Refusal). loaded f B P R) h) ∙ e in
         ap₂ fileOf (sym (ap (λ (l : Lists). l .parents) lists)) (sym (ap (λ (l : Lists). l .ranks) lists))
         ∙ file-back B bytes (file-long L B (length P) (length R) work open-fits)
     go (some f) h =
-        let lists : loaded (some f) B P R ≡ record { answer = Table n; parents = X; ranks = Y } =
+        let lists : loaded (some f) B P R ≡ record { answer = Nodes n; parents = X; ranks = Y } =
         sym (ap (λ (f : Option Refusal). loaded f B P R) h) ∙ e in
         absurd (refused-not-table (ap (λ (l : Lists). l .answer) lists))

@@ -8,9 +8,9 @@ use mathlib.Core.Path.{_≡_}
 use Prim.Native.Nat.{ℕ, _+_, _*_, _^_, _≤_, _<_}
 use lib.ListN.{length, getD}
 use Rattle.laws.specs.Regions.{Only}
+use Rattle.table.specs.declared.Counted.{Counted}
 use Rattle.table.specs.declared.Limits.{Limits}
 use Rattle.table.specs.Table.{treeFault}
-use Rattle.treefile.specs.declared.Loaded.{Loaded}
 use Rattle.treefile.specs.TreeFile.{bytesOf, statedNodes, fileParents, fileRanks, loaded}
 
 -- the 4 bytes of w from i on, and nothing else changed
@@ -32,5 +32,5 @@ pub record Opened (L : Limits) (B P R W : List ℕ) : Type 0 where
   pub ranks : length R ≡ length P
   pub work : length W ≡ 4 * length P
 
-pub record Tabled (B P R : List ℕ) (X Y : List ℕ) (r : Loaded) : Type 0 where
+pub record Tabled (B P R : List ℕ) (X Y : List ℕ) (r : Counted) : Type 0 where
   pub outcome : record { answer = r; parents = X; ranks = Y } ≡ loaded (treeFault (fileParents B) (fileRanks B)) B P R

@@ -20,10 +20,10 @@ use Prim.Native.Nat.{ℕ, _+_, _*_, _/_, _%_}
 use lib.Dec.{ltb, eqb}
 use lib.ListN.{length, getD}
 use Rattle.laws.specs.Search.{tabulate, Refusal, refuse, _orElse_, refusedOr}
+use Rattle.table.specs.declared.Counted.{Counted}
+use Rattle.table.specs.declared.Counted.the-variants.{Nodes, Refused}
 use Rattle.table.specs.declared.Limits.{Limits}
 use Rattle.table.specs.Table.{shapeFault, treeFault, tableFault, Called}
-use Rattle.treefile.specs.declared.Loaded.{Loaded}
-use Rattle.treefile.specs.declared.Loaded.the-variants.{Table, Refused}
 use Rattle.treefile.specs.declared.Saved.{Saved}
 use Rattle.treefile.specs.declared.Saved.the-variants.{Bytes, Unsaved}
 
@@ -74,14 +74,14 @@ openFault L B parents ranks work =
     orElse refuse (not (eqb parents (statedNodes B) && (eqb ranks (statedNodes B) && eqb work (4 * statedNodes B)))) 3 0
 
 pub record Lists : Type 0 where
-  pub answer : Loaded
+  pub answer : Counted
   pub parents : List ℕ
   pub ranks : List ℕ
 
 unfoldable pub loaded : Option Refusal → List ℕ → List ℕ → List ℕ → Lists
 loaded f B P R =
     refusedOr (λ k v. record { answer = Refused k v; parents = P; ranks = R }) f
-    (record { answer = Table (statedNodes B); parents = fileParents B; ranks = fileRanks B })
+    (record { answer = Nodes (statedNodes B); parents = fileParents B; ranks = fileRanks B })
 
 unfoldable pub readTree : Limits → List ℕ → List ℕ → List ℕ → ℕ → Lists
 readTree L B P R work =
@@ -107,7 +107,7 @@ writeTree L P R B work =
 -- The contracts: W and Z are the work list at entry and at exit, the other lists are P, R and B at entry, X, Y and C
 -- at exit
 
-abbrev pub Read : Limits → List ℕ → List ℕ → List ℕ → List ℕ → List ℕ → List ℕ → List ℕ → Loaded → Type 0
+abbrev pub Read : Limits → List ℕ → List ℕ → List ℕ → List ℕ → List ℕ → List ℕ → List ℕ → Counted → Type 0
 Read L B P R W X Y Z r =
     Called (openFault L B (length P) (length R) (length W)) W Z
     (record { answer = r; parents = X; ranks = Y } ≡ readTree L B P R (length W))

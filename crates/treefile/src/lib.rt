@@ -1,4 +1,5 @@
 // Tree files.
+use table::Counted;
 use table::Limits;
 use table::Validity;
 ghost use mathlib.Core.Path.{_≡_};
@@ -9,12 +10,6 @@ ghost use Rattle.table.specs.Table.{large};
 ghost use Rattle.table.specs.Parts.{Copied};
 ghost use Rattle.treefile.specs.Parts.{Opened, Tabled, WordPut, Encoded};
 ghost use Rattle.treefile.specs.TreeFile.{wordAt, words, statedOrZero, Read, Wrote};
-
-// What the reader answers: the number of nodes, or a refusal with its number and node.
-pub enum Loaded {
-    Table(u32),
-    Refused(u32, u32),
-}
 
 // What the writer answers: the number of bytes, or a refusal with its number and node.
 pub enum Saved {
@@ -88,7 +83,7 @@ fn load(
     parent: &mut [u32],
     rank: &mut [u32],
     work: &mut [u32],
-) -> Loaded
+) -> Counted
     requires { ⌜ Opened limits (now bytes) (now parent) (now rank) (now work) ⌝ }
     ensures { λ r. ⌜ Tabled (now (bytes .entry)) (now (parent .entry)) (now (rank .entry)) (now (parent .exit))
         (now (rank .exit)) r ⌝ }
@@ -99,11 +94,11 @@ fn load(
     decode(bytes, 4, parent);
     decode(bytes, 4 + 4 * n, rank);
     match table::validate(limits, parent, rank, true, work) {
-        Validity::Accepted => Loaded::Table(n as u32),
+        Validity::Accepted => Counted::Nodes(n as u32),
         Validity::Refused(k, v) => {
             table::copy_out(work, 2 * n, parent);
             table::copy_out(work, 3 * n, rank);
-            Loaded::Refused(k, v)
+            Counted::Refused(k, v)
         }
     }
 }
@@ -116,32 +111,32 @@ pub fn read_tree_within(
     parent: &mut [u32],
     rank: &mut [u32],
     work: &mut [u32],
-) -> Loaded
+) -> Counted
     ensures { λ r. ⌜ Read limits (now (bytes .entry)) (now (parent .entry)) (now (rank .entry)) (now (work .entry))
         (now (parent .exit)) (now (rank .exit)) (now (work .exit)) r ⌝ }
 {
     if bytes.len() < 4 {
-        return Loaded::Refused(16, 0);
+        return Counted::Refused(16, 0);
     }
     let n = word(bytes, 0);
     let most = limits.nodes as usize;
     if n == 0 {
-        return Loaded::Refused(1, 0);
+        return Counted::Refused(1, 0);
     }
     if most < n {
-        return Loaded::Refused(limits.many, 0);
+        return Counted::Refused(limits.many, 0);
     }
     if bytes.len() != 4 + 8 * n {
-        return Loaded::Refused(17, 0);
+        return Counted::Refused(17, 0);
     }
     if parent.len() != n {
-        return Loaded::Refused(3, 0);
+        return Counted::Refused(3, 0);
     }
     if rank.len() != n {
-        return Loaded::Refused(3, 0);
+        return Counted::Refused(3, 0);
     }
     if work.len() != 4 * n {
-        return Loaded::Refused(3, 0);
+        return Counted::Refused(3, 0);
     }
     load(limits, bytes, parent, rank, work)
 }
@@ -199,7 +194,7 @@ pub fn write_tree_within(
 }
 
 // Reads a tree file of at most 65,536 nodes.
-pub fn read_tree(bytes: &[u8], parent: &mut [u32], rank: &mut [u32], work: &mut [u32]) -> Loaded
+pub fn read_tree(bytes: &[u8], parent: &mut [u32], rank: &mut [u32], work: &mut [u32]) -> Counted
     ensures { λ r. ⌜ Read large (now (bytes .entry)) (now (parent .entry)) (now (rank .entry)) (now (work .entry))
         (now (parent .exit)) (now (rank .exit)) (now (work .exit)) r ⌝ }
 {

@@ -18,7 +18,7 @@ returns-2 c =
       record {
         answer = called .read-tree .result;
         kept = called .read-tree .ensures;
-        written = replied .put-loaded .ensures;
+        written = replied .put-counted .ensures;
       },
     )
 
