@@ -1,0 +1,3 @@
+pub mod PostNumbers
+pub mod PostNumberLaws
+pub mod Examples
