@@ -12,6 +12,7 @@ ghost use mathlib.Core.Path.{_≡_};
 ghost use lib.IntN.{pos};
 ghost use lib.ListN.{length};
 ghost use Rattle.table.specs.Table.{large, checked};
+ghost use Rattle.numbers.specs.PostNumbers.{spans, Spanned};
 ghost use Rattle.drawing.specs.Drawing.{lent, layout, OnDrawing};
 ghost use Rattle.stretching.specs.Stretching.{lengthen, shorten};
 ghost use Rattle.direction.specs.Direction.{Directed};
@@ -106,6 +107,33 @@ fn put_saved(reply: &mut [i64], answer: Saved)
         Saved::Bytes(bytes) => put_numbers(reply, 1, bytes as u32, 0),
         Saved::Unsaved(number, node) => put_numbers(reply, 0, number, node),
     }
+}
+
+// Fills in the first and the last post number in each lot's subtree: {1, n, 0}, or {0, number, node} where it is
+// refused.
+#[no_mangle]
+pub extern "C" fn lineage_post_numbers(
+    parent: &[u32],
+    rank: &[u32],
+    first: &mut [u32],
+    last: &mut [u32],
+    work: &mut [u32],
+    reply: &mut [i64],
+) -> bool
+    ensures { λ b. ⌜ Exported
+        (Spanned large (now (parent .entry)) (now (rank .entry)) (spans (now (first .entry)) (now (last .entry)))
+        (now (work .entry)) (spans (now (first .exit)) (now (last .exit))) (now (work .exit)))
+        countedReply
+        ((spans (now (first .exit)) (now (last .exit)) ≡ spans (now (first .entry)) (now (last .entry)))
+        × (now (work .exit) ≡ now (work .entry)))
+        (now (reply .entry)) (now (reply .exit)) b ⌝ }
+{
+    if reply.len() != 3 {
+        return false;
+    }
+    let answer = numbers::post_numbers(parent, rank, first, last, work);
+    put_counted(reply, answer);
+    true
 }
 
 // Writes a fresh sheet: {1, width, height}, or {0, number, node} where it is refused.
