@@ -1,5 +1,6 @@
 -- Document 01's cases that are marked [proved], as document 02 changes them: one table, and one theorem about the
--- definitions. Frames count grid cells (request 101), and the walk to a balanced slope tells its turns (request 104).
+-- definitions. Frames count grid cells (request 101), the walk to a balanced slope tells its turns (request 104), and
+-- post numbers come with the first of each subtree (request 107).
 --
 --   Case          == a case, with what document 01 says of it
 --   Holds c       == the definitions say so
@@ -14,9 +15,11 @@ use lib.IntN.{ℤ, pos, negℤ}
 use lib.ListN.{length}
 use Rattle.laws.specs.Refusals.{refusal}
 use Rattle.laws.specs.Search.{count, least, tabulate, Outcome}
+use Rattle.table.specs.declared.Counted.the-variants.{Nodes}
 use Rattle.table.specs.Table.{climb, leads, isChild, children, isChildAt, childAt, under, stepsUp, forest, postorder}
-use Rattle.table.specs.Table.{place, order, postNumber, large, checked, strayParent, badRank, adrift, allLong}
-use Rattle.table.specs.Table.{shapeFault, treeFault, tableFault}
+use Rattle.table.specs.Table.{place, order, postNumber, hasNumber, firstNumber, large, checked, strayParent, badRank}
+use Rattle.table.specs.Table.{adrift, allLong, shapeFault, treeFault, tableFault}
+use Rattle.numbers.specs.PostNumbers.{Spans, spans, spansOf, postNumbers}
 use Rattle.slopes.specs.declared.Rule.the-variants.{Steep, Balanced}
 use Rattle.slopes.specs.declared.Slope.{Slope}
 use Rattle.slopes.specs.Examples.{_over_}
@@ -48,9 +51,13 @@ fiveParents = 0 ∷ 0 ∷ 0 ∷ 1 ∷ 1 ∷ []
 abbrev fiveRanks : List ℕ
 fiveRanks = 0 ∷ 0 ∷ 1 ∷ 0 ∷ 1 ∷ []
 
+-- whatever the lists hold before
+abbrev anySpans : Spans
+anySpans = spans (7 ∷ 7 ∷ 7 ∷ 7 ∷ 7 ∷ []) (7 ∷ 7 ∷ 7 ∷ 7 ∷ 7 ∷ [])
+
 pub data Case : Type 0 where
-  -- the post numbers of a table's nodes
-  Numbers : List ℕ → List ℕ → List ℕ → Case
+  -- the post numbers of a table's nodes, and the lists of first and last numbers that the call fills with them
+  Numbers : List ℕ → List ℕ → Spans → Case
   -- an outcome of layout, lengthen or shorten: the answer and the drawing
   Calls : Outcome Framed Drawing → Framed → Drawing → Case
   -- the steep direction of the five-lot table from u to v
@@ -65,7 +72,9 @@ pub data Case : Type 0 where
   Prints : List ℕ → List ℕ → List ℕ → Case
 
 unfoldable pub Holds : Case → Type 0
-Holds (Numbers P R l) = tabulate (length P) (postNumber P R) ≡ l
+Holds (Numbers P R s) =
+    (tabulate (length P) (postNumber P R) ≡ s .last)
+    × (postNumbers large P R anySpans (4 * length P) ≡ record { answer = Nodes (length P); left = s })
 Holds (Calls o a s) = o ≡ record { answer = a; left = s }
 Holds (Goes u v d e) = direction large fiveParents fiveRanks Steep 20 u v ≡ Along d e
 Holds (Levels k l turns) = (levels k flat upright ≡ l) × (tabulate (length l) (λ i. levelAt k (suc i)) ≡ map suc turns)
@@ -121,7 +130,7 @@ farTwo = lent (1 ∷ 2147483647 ∷ []) (0 ∷ 2147483647 ∷ []) (0 ∷ 2147483
 unfoldable pub cases : List Case
 cases =
     -- the five lots
-    Numbers fiveParents fiveRanks (5 ∷ 3 ∷ 4 ∷ 1 ∷ 2 ∷ [])
+    Numbers fiveParents fiveRanks (spans (1 ∷ 1 ∷ 4 ∷ 1 ∷ 2 ∷ []) (5 ∷ 3 ∷ 4 ∷ 1 ∷ 2 ∷ []))
     ∷ Calls (layout large fiveParents fiveRanks Steep anyFive 20) (Frame 3 6) steep
     ∷ Calls (layout large fiveParents fiveRanks Balanced anyFive 20) (Frame 7 4) balanced
     ∷ Prints fiveParents fiveRanks fiveText
@@ -162,14 +171,15 @@ a and b = (a, b)
 
 pub cases-hold : AllHold cases
 unfolding AllHold Holds cases count least tabulate climb leads isChild children isChildAt childAt under stepsUp forest
-    postorder place order postNumber strayParent badRank adrift allLong shapeFault treeFault tableFault
+    postorder place order postNumber hasNumber firstNumber spansOf postNumbers strayParent badRank adrift allLong
+    shapeFault treeFault tableFault
     levels levelNumbers levelsFor slopeAt edge sumUp pathSum freshPlaces fresh largest frame placed nodeFits moved
     stretched beyond drawingFault edgeFault stretchFault layout lengthen shorten sideways heading pairFault direction
     wordAt words statedNodes fileParents fileRanks openFault bytesOf allBytes fileOf digits decimal field lotLine
     lotLines sheetOf fileFault placesOfTable textOf sheetText
     monotone.placeBeyond checkFault widen span upward downward pathVectors turnsAt secondNode firstNode decide
 cases-hold =
-    refl and refl and refl and refl and refl and refl and refl and refl
+    (refl, refl) and refl and refl and refl and refl and refl and refl and refl
     and refl and refl and refl and (refl, refl) and refl and refl and refl
     and says (0 ∷ 0 ∷ 1 ∷ 2 ∷ []) (0 ∷ 0 ∷ 0 ∷ 0 ∷ []) (0 ∷ 1 ∷ 1 ∷ 0 ∷ []) (0 ∷ 0 ∷ 1 ∷ 1 ∷ [])
     and says (0 ∷ 0 ∷ 1 ∷ []) (0 ∷ 0 ∷ 0 ∷ []) (0 ∷ 1 ∷ 2 ∷ []) (0 ∷ 0 ∷ 0 ∷ [])

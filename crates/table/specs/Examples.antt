@@ -6,10 +6,9 @@ use mathlib.Core.Path.{_≡_, refl}
 use Prim.Native.Nat.{ℕ, _*_}
 use lib.ListN.{length}
 use Rattle.laws.specs.Refusals.{refusal}
-use Rattle.laws.specs.Search.{count, least, tabulate, Refusal}
-use Rattle.table.specs.Table.{climb, leads, isChild, children, isChildAt, childAt, under, forest, postorder}
-use Rattle.table.specs.Table.{order, place, postNumber, hasNumber, firstNumber, strayParent, badRank, adrift}
-use Rattle.table.specs.Table.{large, shapeFault, treeFault, tableFault}
+use Rattle.laws.specs.Search.{count, least, Refusal}
+use Rattle.table.specs.Table.{climb, leads, isChild, children, isChildAt, strayParent, badRank, adrift, large}
+use Rattle.table.specs.Table.{shapeFault, treeFault, tableFault}
 
 unfoldable pub fault : List ℕ → List ℕ → Option Refusal
 unfolding tableFault shapeFault treeFault count least climb leads isChild children isChildAt strayParent badRank adrift
@@ -52,14 +51,3 @@ cases =
 pub cases-right : map (λ (c : Case). fault (c .parents) (c .ranks)) cases ≡ map (λ (c : Case). c .answer) cases
 unfolding fault cases
 cases-right = refl
-
-abbrev five-parents : List ℕ
-five-parents = 0 ∷ 0 ∷ 0 ∷ 1 ∷ 1 ∷ []
-
-abbrev five-ranks : List ℕ
-five-ranks = 0 ∷ 0 ∷ 1 ∷ 0 ∷ 1 ∷ []
-
-pub five-firsts : tabulate 5 (firstNumber five-parents five-ranks) ≡ 1 ∷ 1 ∷ 4 ∷ 1 ∷ 2 ∷ []
-unfolding count least tabulate climb isChild children isChildAt childAt under forest postorder order place postNumber
-    hasNumber firstNumber
-five-firsts = refl
