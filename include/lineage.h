@@ -38,10 +38,11 @@
 extern "C" {
 #endif
 
-/* The version of the library that this header belongs to. From 0.2 frames count grid cells. */
-#define LINEAGE_VERSION "0.2.0"
+/* The version of the library that this header belongs to. From 0.2 frames count grid cells; from 0.3 there is
+ * lineage_post_numbers. */
+#define LINEAGE_VERSION "0.3.0"
 #define LINEAGE_VERSION_MAJOR 0
-#define LINEAGE_VERSION_MINOR 2
+#define LINEAGE_VERSION_MINOR 3
 #define LINEAGE_VERSION_PATCH 0
 
 /* The most lots of a table, the most that the check takes, and the largest x and y on a sheet. */
@@ -113,6 +114,13 @@ bool lineage_shorten(bool balanced, const uint32_t *parent, size_t parent_length
 bool lineage_direction(bool balanced, const uint32_t *parent, size_t parent_length, const uint32_t *rank,
                        size_t rank_length, uint32_t *work, size_t work_length, uint32_t from, uint32_t to,
                        int64_t *reply, size_t reply_length);
+
+/* Which numbers in post-order, from 1, lie under each lot: writes the least in the lot's subtree into first, and the
+ * lot's own, which is the largest there, into last. A lot z is in v's subtree exactly when last[z] lies between
+ * first[v] and last[v], both ends included; a leaf has both equal. Reply: {1, n, 0}. Refusals 1 to 7. */
+bool lineage_post_numbers(const uint32_t *parent, size_t parent_length, const uint32_t *rank, size_t rank_length,
+                          uint32_t *first, size_t first_length, uint32_t *last, size_t last_length,
+                          uint32_t *work, size_t work_length, int64_t *reply, size_t reply_length);
 
 /* Whether a drawing of at most 4,096 lots, whoever drew it, is monotone: for each two lots some direction makes every
  * edge of their tree path rise. Reply: {1, 0, 0} if it is, or {2, u, v}, u below v, the first pair that has no

@@ -75,6 +75,43 @@ static void directions(void)
     expect("direction 2 to 2", refused(lineage_direction(false, TABLE, WORK, 2, 2, REPLY), LINEAGE_SAME_LOT, 0));
 }
 
+/* Whether z is v or below it, by the parents alone. */
+static bool under(uint32_t v, uint32_t z)
+{
+    while (z != v && z != 0)
+        z = parent[z];
+    return z == v;
+}
+
+static void numbers(void)
+{
+    const uint32_t loop[5] = {0, 2, 1, 0, 0}, loop_ranks[5] = {0, 0, 0, 0, 1};
+    uint32_t first[5] = {9, 9, 9, 9, 9}, last[5] = {8, 8, 8, 8, 8}, before[20];
+    memcpy(before, work, sizeof work);
+    expect("no lots", refused(lineage_post_numbers(parent, 0, ranks, 0, first, 0, last, 0, work, 0, REPLY),
+                              LINEAGE_NO_LOTS, 0));
+    expect("first too short",
+           refused(lineage_post_numbers(TABLE, first, 4, last, 5, WORK, REPLY), LINEAGE_WRONG_LENGTH, 0));
+    expect("last too short",
+           refused(lineage_post_numbers(TABLE, first, 5, last, 4, WORK, REPLY), LINEAGE_WRONG_LENGTH, 0));
+    expect("work too short",
+           refused(lineage_post_numbers(TABLE, first, 5, last, 5, work, 19, REPLY), LINEAGE_WRONG_LENGTH, 0));
+    memset(reply, -1, sizeof reply);
+    expect("a reply of two numbers", !lineage_post_numbers(TABLE, first, 5, last, 5, WORK, reply, 2));
+    expect("it is not set", reply[0] == -1 && reply[1] == -1);
+    expect("the work list is as it was", memcmp(before, work, sizeof work) == 0);
+    expect("a loop",
+           refused(lineage_post_numbers(loop, 5, loop_ranks, 5, first, 5, last, 5, WORK, REPLY), LINEAGE_LOOP, 1));
+    expect("first and last are as they were", are(first, 9, 9, 9, 9, 9) && are(last, 8, 8, 8, 8, 8));
+
+    expect("post numbers", replied(lineage_post_numbers(TABLE, first, 5, last, 5, WORK, REPLY), 1, 5, 0));
+    expect("first and last", are(first, 1, 1, 4, 1, 2) && are(last, 5, 3, 4, 1, 2));
+    for (uint32_t v = 0; v < 5; v++)
+        for (uint32_t z = 0; z < 5; z++)
+            expect("a lot is in a subtree exactly when its number is",
+                   under(v, z) == (first[v] <= last[z] && last[z] <= last[v]));
+}
+
 static void checks(void)
 {
     const uint32_t chain[4] = {0, 0, 1, 2}, first[4] = {0, 0, 0, 0}, across[4] = {0, 1, 1, 0}, up[4] = {0, 0, 1, 1};
@@ -109,6 +146,7 @@ int main(void)
 {
     sheets();
     directions();
+    numbers();
     checks();
     files();
     printf("%d passed, %d failed\n", passed, failed);
