@@ -273,6 +273,26 @@ bool plain_direction(bool balanced, const uint32_t *parent, size_t parents, cons
     return true;
 }
 
+bool plain_post_numbers(const uint32_t *parent, size_t parents, const uint32_t *rank, size_t ranks, uint32_t *first,
+                        size_t firsts, uint32_t *last, size_t lasts, uint32_t *work, size_t works, int64_t *reply,
+                        size_t replies)
+{
+    uint32_t lot, number_;
+    if (replies != 3)
+        return false;
+    bool others = firsts == parents && lasts == parents;
+    if ((number_ = table_refused(parent, parents, rank, ranks, others, LOTS, 2, work, works, &lot)))
+        return refused(reply, number_, lot);
+    uint32_t n = (uint32_t)parents;
+    number(parent, rank, n, work);
+    memcpy(last, work, n * sizeof *last);
+    memcpy(first, work + 2 * (size_t)n, n * sizeof *first);
+    reply[0] = 1;
+    reply[1] = n;
+    reply[2] = 0;
+    return true;
+}
+
 /* The vectors of a path as a cone between two of them: a cone is low * 65536 + high, by the lots of the two edges; 1 is the
  * empty path's and 2 that of a path without a direction. */
 static uint32_t grow(const uint32_t *dx, const uint32_t *dy, uint32_t cone, uint32_t z)

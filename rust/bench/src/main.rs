@@ -26,6 +26,7 @@ mod plain_c {
         plain_layout,
         [lengthen = plain_lengthen, shorten = plain_shorten],
         plain_direction,
+        plain_post_numbers,
         plain_check,
         plain_read_tree,
         plain_write_tree
@@ -35,7 +36,7 @@ mod plain_c {
 /// A call on lists, under the balanced rule or the steep one.
 type Call = fn(&mut Lists, bool);
 
-/// One library's calls, on the lists of `Lists`. Tree files have no rule.
+/// One library's calls, on the lists of `Lists`. Post numbers and tree files have no rule.
 macro_rules! on_lists {
     ($module:ident, $calls:path) => {
         mod $module {
@@ -62,6 +63,12 @@ macro_rules! on_lists {
                 assert!(calls::direction(b, &l.parent, &l.rank, &mut l.work, n - 1, n / 2, &mut l.reply));
             }
 
+            /// Any two lists of n numbers do for the first and the last, and a sheet's are put back after the call.
+            pub fn post_numbers(l: &mut Lists, b: bool) {
+                let s = l.sheets[usize::from(b)].lent();
+                assert!(calls::post_numbers(&l.parent, &l.rank, s.x, s.y, &mut l.work, &mut l.reply));
+            }
+
             pub fn check(l: &mut Lists, b: bool) {
                 let s = &l.sheets[usize::from(b)];
                 assert!(calls::check(&l.parent, &l.rank, &s.x, &s.y, &mut l.work, &mut l.reply));
@@ -82,6 +89,7 @@ on_lists!(proved, lineage::raw);
 on_lists!(plain, super::plain_c);
 
 /// The lists that the calls work on: a table with a sheet under each rule, steep first, and the lot that is stretched.
+#[derive(Clone, PartialEq)]
 struct Lists {
     parent: Vec<u32>,
     rank: Vec<u32>,
@@ -92,7 +100,7 @@ struct Lists {
     lot: u32,
 }
 
-#[derive(Clone)]
+#[derive(Clone, PartialEq)]
 struct Sheet {
     times: Vec<u32>,
     x: Vec<u32>,
@@ -210,11 +218,25 @@ impl Took {
     }
 }
 
+/// Sees that a call by both libraries gives the same reply and leaves the same in every list but the work list.
+fn compare(l: &Lists, b: bool, calls: [Call; 2]) {
+    let [proved, plain] = calls.map(|call| {
+        let mut after = l.clone();
+        call(&mut after, b);
+        after.work.clear();
+        after
+    });
+    assert!(proved == plain, "the two differ: {:?}, {:?}", proved.reply, plain.reply);
+}
+
 /// Makes a call by both libraries and under each of the rules in turn, round after round, each time on the same sheet.
 /// A round's calls are made on one tree, but for the second rule's, which are made on the one half way round: so what
 /// the processor has learnt of a tree is equally old for each. What the proved call and the C version took, for each
 /// rule.
 fn in_turn(rounds: usize, trees: &mut [Lists], rules: &[bool], calls: [Call; 2]) -> Vec<[Took; 2]> {
+    for l in &*trees {
+        rules.iter().for_each(|&b| compare(l, b, calls));
+    }
     let count = trees.len();
     let kept: Vec<[Sheet; 2]> = trees.iter().map(|l| l.sheets.clone()).collect();
     let mut took = vec![<[Took; 2]>::default(); rules.len()];
@@ -331,10 +353,12 @@ fn ruled_calls(summary: &mut Summary, rounds: usize, trees: &mut [Lists], shape:
     time("direction", trees, [proved::direction, plain::direction]);
 }
 
-fn tree_files(summary: &mut Summary, rounds: usize, trees: &mut [Lists], shape: &str) {
+/// The calls that have no rule.
+fn other_calls(summary: &mut Summary, rounds: usize, trees: &mut [Lists], shape: &str) {
     let mut time = |call, calls| {
         summary.line(call, "", shape, trees[0].lots(), &in_turn(rounds, trees, &[false], calls)[0]);
     };
+    time("post_numbers", [proved::post_numbers, plain::post_numbers]);
     time("write_tree", [proved::write_tree, plain::write_tree]);
     time("read_tree", [proved::read_tree, plain::read_tree]);
 }
@@ -354,7 +378,7 @@ fn main() {
         for shape in SHAPES {
             let mut trees = trees(shape, n, count);
             ruled_calls(&mut summary, rounds, &mut trees, shape);
-            tree_files(&mut summary, rounds, &mut trees, shape);
+            other_calls(&mut summary, rounds, &mut trees, shape);
         }
     }
     for n in [1024, 4096] {

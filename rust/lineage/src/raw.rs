@@ -24,8 +24,8 @@ pub struct Lists<'a> {
 #[rustfmt::skip]
 macro_rules! calls {
     (
-        $layout:ident, [$($stretch:ident = $stretched:ident),*], $direction:ident, $check:ident, $read:ident,
-        $write:ident
+        $layout:ident, [$($stretch:ident = $stretched:ident),*], $direction:ident, $numbers:ident, $check:ident,
+        $read:ident, $write:ident
     ) => {
         extern "C" {
             fn $layout(
@@ -41,6 +41,11 @@ macro_rules! calls {
             fn $direction(
                 balanced: bool, parent: *const u32, parents: usize, rank: *const u32, ranks: usize, work: *mut u32,
                 work_length: usize, from: u32, to: u32, reply: *mut i64, reply_length: usize,
+            ) -> bool;
+            fn $numbers(
+                parent: *const u32, parents: usize, rank: *const u32, ranks: usize, first: *mut u32,
+                first_length: usize, last: *mut u32, last_length: usize, work: *mut u32, work_length: usize,
+                reply: *mut i64, reply_length: usize,
             ) -> bool;
             fn $check(
                 parent: *const u32, parents: usize, rank: *const u32, ranks: usize, x: *const u32, x_length: usize,
@@ -103,6 +108,19 @@ macro_rules! calls {
             }
         }
 
+        /// {1, n, 0}.
+        pub fn post_numbers(
+            parent: &[u32], rank: &[u32], first: &mut [u32], last: &mut [u32], work: &mut [u32], reply: &mut [i64],
+        ) -> bool {
+            // SAFETY: as in `layout`.
+            unsafe {
+                $numbers(
+                    parent.as_ptr(), parent.len(), rank.as_ptr(), rank.len(), first.as_mut_ptr(), first.len(),
+                    last.as_mut_ptr(), last.len(), work.as_mut_ptr(), work.len(), reply.as_mut_ptr(), reply.len(),
+                )
+            }
+        }
+
         /// {1, 0, 0} where the drawing is monotone, {2, u, v} where the path from u to v turns.
         pub fn check(
             parent: &[u32], rank: &[u32], x: &[u32], y: &[u32], work: &mut [u32], reply: &mut [i64],
@@ -148,6 +166,7 @@ calls!(
     lineage_layout,
     [lengthen = lineage_lengthen, shorten = lineage_shorten],
     lineage_direction,
+    lineage_post_numbers,
     lineage_check,
     lineage_read_tree,
     lineage_write_tree
