@@ -140,6 +140,30 @@ impl Tree {
         &self.rank
     }
 
+    /// The first and the last post number in each lot's subtree.
+    ///
+    /// ```
+    /// let tree = lineage::Tree::new(vec![0, 0, 0, 1, 1], vec![0, 0, 1, 0, 1])?;
+    /// let numbers = tree.post_numbers();
+    /// assert_eq!(numbers.last, [5, 3, 4, 1, 2]);
+    /// assert_eq!(numbers.first, [1, 1, 4, 1, 2]);
+    /// assert!(numbers.under(1, 4) && !numbers.under(1, 2));
+    /// # Ok::<(), lineage::Refused>(())
+    /// ```
+    ///
+    /// # Panics
+    ///
+    /// Never: the lists of a `Tree` were accepted, and the call has no refusal besides those of its table.
+    pub fn post_numbers(&self) -> PostNumbers {
+        let n = self.lots();
+        let (mut first, mut last, mut work) = (vec![0; n], vec![0; n], vec![0; 4 * n]);
+        let answer = asked(Call::PostNumbers, |reply| {
+            raw::post_numbers(&self.parent, &self.rank, &mut first, &mut last, &mut work, reply)
+        });
+        answer.expect("an accepted table");
+        PostNumbers { first, last }
+    }
+
     /// Each lot's children, in rank order.
     pub fn children(&self) -> Vec<Vec<u32>> {
         let mut children = vec![Vec::new(); self.lots()];
@@ -190,6 +214,26 @@ fn file_of(parent: &[u32], rank: &[u32]) -> Result<Vec<u8>, Refused> {
     let (mut bytes, mut work) = (vec![0; 4 + 8 * n], vec![0; 4 * n]);
     asked(Call::WriteTree, |reply| raw::write_tree(parent, rank, &mut bytes, &mut work, reply))?;
     Ok(bytes)
+}
+
+/// The post numbers in each lot's subtree: all from its first to its last, and no others.
+#[derive(Clone, Debug, PartialEq, Eq)]
+pub struct PostNumbers {
+    /// The least post number in each lot's subtree.
+    pub first: Vec<u32>,
+    /// Each lot's own post number, the largest in its subtree.
+    pub last: Vec<u32>,
+}
+
+impl PostNumbers {
+    /// Whether lot z is in v's subtree: its number lies between v's two. It is not where one of them is no lot.
+    pub fn under(&self, v: u32, z: u32) -> bool {
+        let at = |list: &[u32], lot: u32| list.get(lot as usize).copied();
+        match (at(&self.first, v), at(&self.last, z), at(&self.last, v)) {
+            (Some(first), Some(own), Some(last)) => (first..=last).contains(&own),
+            _ => false,
+        }
+    }
 }
 
 /// The grid cells of a sheet, from the root's.

@@ -13,6 +13,8 @@ pub enum Call {
     Shorten,
     /// [`direction`](crate::direction()).
     Direction,
+    /// [`Tree::post_numbers`](crate::Tree::post_numbers).
+    PostNumbers,
     /// [`check`](crate::check()).
     Check,
     /// [`Tree::from_bytes`](crate::Tree::from_bytes).
@@ -28,6 +30,7 @@ impl fmt::Display for Call {
             Call::Lengthen => "lengthen",
             Call::Shorten => "shorten",
             Call::Direction => "direction",
+            Call::PostNumbers => "post numbers",
             Call::Check => "check",
             Call::ReadTree => "reading the tree file",
             Call::WriteTree => "the table",

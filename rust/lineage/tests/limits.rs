@@ -1,6 +1,6 @@
 //! The limits that the crate names are those of the library, to the last lot and place.
 
-use lineage::{check, Frame, Refused, Rule, Sheet, Tree, Verdict, CHECK_LOTS, MAX_LOTS, MAX_PLACE};
+use lineage::{check, raw, Frame, Refused, Rule, Sheet, Tree, Verdict, CHECK_LOTS, MAX_LOTS, MAX_PLACE};
 
 /// A root with n - 1 children.
 fn star(n: u32) -> Result<Tree, Refused> {
@@ -17,6 +17,22 @@ fn lots() {
     assert_eq!(Sheet::new(tree.clone(), Rule::Steep).unwrap().frame(), Frame { width: 2, height: MAX_LOTS });
     assert_eq!(Tree::from_bytes(&tree.to_bytes()).unwrap(), tree);
     assert_eq!(number(star(MAX_LOTS + 1)), 2);
+}
+
+/// The post numbers of a chain, which has the largest subtrees.
+#[test]
+fn post_numbers() {
+    let chain: Vec<u32> = (0..=MAX_LOTS).map(|v| v.saturating_sub(1)).collect();
+    let n = chain.len();
+    let (rank, mut first, mut last, mut work, mut reply) =
+        (vec![0; n], vec![7; n], vec![8; n], vec![9; 4 * n], [0; 3]);
+    assert!(raw::post_numbers(&chain, &rank, &mut first, &mut last, &mut work, &mut reply));
+    assert_eq!(reply, [0, 2, 0]);
+    assert!((first, last, work) == (vec![7; n], vec![8; n], vec![9; 4 * n]), "a refusal changes nothing");
+
+    let numbers = Tree::new(chain[..n - 1].to_vec(), vec![0; n - 1]).unwrap().post_numbers();
+    assert!(numbers.first.iter().all(|&first| first == 1));
+    assert!(numbers.last.iter().copied().eq((1..=MAX_LOTS).rev()));
 }
 
 #[test]
