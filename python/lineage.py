@@ -33,8 +33,8 @@ from ctypes import c_bool, c_int64, c_size_t, c_uint8, c_uint32
 from pathlib import Path
 from typing import Any, Iterable, NamedTuple, Optional, Union
 
-__all__ = ["CHECK_LOTS", "MAX_LOTS", "MAX_PLACE", "GROUNDS", "Direction", "Frame", "Ground", "Refused", "Sheet", "Tree",
-           "Verdict", "check", "direction"]
+__all__ = ["CHECK_LOTS", "MAX_LOTS", "MAX_PLACE", "GROUNDS", "Direction", "Frame", "Ground", "PostNumbers", "Refused",
+           "Sheet", "Tree", "Verdict", "check", "direction"]
 
 MAX_LOTS = 65_536  #: the most lots of a tree
 CHECK_LOTS = 4_096  #: the most lots of a drawing that the check takes
@@ -99,6 +99,7 @@ _TAKES = {
     "lengthen": [c_bool, *_lists(6), c_uint32, c_uint32],
     "shorten": [c_bool, *_lists(6), c_uint32, c_uint32],
     "direction": [c_bool, *_lists(3), c_uint32, c_uint32],
+    "post_numbers": _lists(5),
     "check": _lists(5),
     "read_tree": [*_BYTES, *_lists(3)],
     "write_tree": [*_lists(2), *_BYTES, *_lists(1)],
@@ -186,6 +187,18 @@ def _balanced(rule: str) -> bool:
 # Trees
 
 
+class PostNumbers(NamedTuple):
+    """The post numbers in each lot's subtree: all from its first to its last, which is its own, and no others."""
+
+    first: list[int]
+    last: list[int]
+
+    def under(self, v: int, z: int) -> bool:
+        """Whether lot z is in v's subtree: its number lies between v's two; IndexError where one of them is no lot."""
+        v, z = _number(v), _number(z)
+        return self.first[v] <= self.last[z] <= self.last[v]
+
+
 class Tree:
     """An accepted tree table: each lot's parent, and its place among its parent's children. Lot 0 is the root.
 
@@ -228,6 +241,20 @@ class Tree:
     def write(self, path: Union[str, os.PathLike[str]]) -> None:
         """Writes its tree file."""
         Path(path).write_bytes(self.to_bytes())
+
+    def post_numbers(self) -> PostNumbers:
+        """The first and the last post number in each lot's subtree.
+
+        >>> numbers = Tree([0, 0, 0, 1, 1], [0, 0, 1, 0, 1]).post_numbers()
+        >>> numbers
+        PostNumbers(first=[1, 1, 4, 1, 2], last=[5, 3, 4, 1, 2])
+        >>> numbers.under(1, 4), numbers.under(1, 2)
+        (True, False)
+        """
+        n = len(self)
+        first, last = _zeros(n), _zeros(n)
+        _ask("post_numbers", self._parents, self._ranks, first, last, _zeros(4 * n))
+        return PostNumbers(list(first), list(last))
 
     @property
     def parents(self) -> list[int]:

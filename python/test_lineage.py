@@ -110,6 +110,16 @@ class BesidePython(unittest.TestCase):
         meeting = next(z for z in up if z in down)
         return up[: up.index(meeting) + 1] + down[: down.index(meeting)][::-1]
 
+    def test_post_numbers(self):
+        for _ in range(100):
+            lists = random_tree(self.draw)
+            numbers, plain = Tree(*lists).post_numbers(), cases.Tree(*lists)
+            self.assertEqual(numbers.last, plain.post)
+            for v in range(plain.n):
+                below = plain.down(v)
+                self.assertEqual(numbers.first[v], min(plain.post[z] for z in below))
+                self.assertEqual({z for z in range(plain.n) if numbers.under(v, z)}, set(below))
+
     def test_tree_files(self):
         with tempfile.TemporaryDirectory() as folder:
             path = Path(folder) / "a.tree"
@@ -246,6 +256,14 @@ class WrongValues(unittest.TestCase):
             self.assertRaises(error, sheet.place, wrong)
             self.assertRaises(error, lineage.check, sheet.tree, [wrong] * 5, sheet.y)
         self.assertRaises(IndexError, sheet.place, 5)
+
+    def test_post_numbers(self):
+        lineage._ask = self.ask
+        numbers = Tree(*FIVE).post_numbers()
+        lineage._ask = self.never
+        for wrong, error in ("1", ValueError), (1.0, ValueError), (-1, OverflowError), (5, IndexError):
+            self.assertRaises(error, numbers.under, wrong, 1)
+            self.assertRaises(error, numbers.under, 1, wrong)
 
     def test_rules(self):
         lineage._ask = self.ask
