@@ -104,6 +104,15 @@ impl Tree {
         order
     }
 
+    /// Each lot's post number: its place in post-order, from 1.
+    pub fn post_numbers(&self) -> Vec<u32> {
+        let mut numbers = vec![0; self.lots()];
+        for (v, number) in self.post_order().into_iter().zip(1..) {
+            numbers[v] = number;
+        }
+        numbers
+    }
+
     /// Each lot's edge slope; the root's is (0, 0).
     pub fn slopes(&self, balanced: bool) -> Vec<Slope> {
         let given = if balanced { balanced_slopes(self.lots()) } else { steep_slopes(self.lots()) };
@@ -361,6 +370,20 @@ pub fn heading(tree: &Tree, s: &[Slope], u: usize, v: usize) -> (i128, i128) {
     }
 }
 
+/// The least and the lot's own post number in each lot's subtree: its reply; the lists are filled where the table is
+/// accepted.
+pub fn post_numbers(parent: &[u32], rank: &[u32], first: &mut Vec<u32>, last: &mut Vec<u32>, work: usize) -> Reply {
+    let tree = match accept(parent, rank, &[first.len(), last.len()], work, 65_536, 2) {
+        Ok(tree) => tree,
+        Err(r) => return refused(r),
+    };
+    let numbers = tree.post_numbers();
+    let least = |v| tree.subtree(v).into_iter().map(|z| numbers[z]).min().unwrap();
+    *first = (0..tree.lots()).map(least).collect();
+    *last = numbers;
+    [1, tree.lots() as i64, 0]
+}
+
 pub fn check(parent: &[u32], rank: &[u32], x: &[u32], y: &[u32], work: usize) -> Reply {
     let tree = match accept(parent, rank, &[x.len(), y.len()], work, 4096, 14) {
         Ok(tree) => tree,
@@ -462,6 +485,14 @@ mod tests {
     fn post_numbers_of_the_five_lots() {
         let tree = accept_lists(&[0, 0, 0, 1, 1], &[0, 0, 1, 0, 1]).unwrap();
         assert_eq!(tree.post_order(), [3, 4, 1, 2, 0]);
+        assert_eq!(tree.post_numbers(), [5, 3, 4, 1, 2]);
+    }
+
+    #[test]
+    fn first_and_last_of_the_five_lots() {
+        let (mut first, mut last) = (vec![9; 5], vec![9; 5]);
+        let reply = post_numbers(&[0, 0, 0, 1, 1], &[0, 0, 1, 0, 1], &mut first, &mut last, 20);
+        assert_eq!((reply, &first[..], &last[..]), ([1, 5, 0], &[1, 1, 4, 1, 2][..], &[5, 3, 4, 1, 2][..]));
     }
 
     #[test]

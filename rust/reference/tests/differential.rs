@@ -42,7 +42,10 @@ impl Lent {
         let seed = random.bits() as u32;
         let work: Vec<u32> = (0..length as u32).map(|i| i.wrapping_mul(2_654_435_761) ^ seed).collect();
         let length = if random.once_in(100) { random.below(6) } else { 3 };
-        let reply: Vec<i64> = (0..length).map(|_| random.bits() as i64).collect();
+        Lent::of(work, (0..length).map(|_| random.bits() as i64).collect())
+    }
+
+    fn of(work: Vec<u32>, reply: Vec<i64>) -> Lent {
         Lent { work_before: work.clone(), work, reply_before: reply.clone(), reply }
     }
 
@@ -249,6 +252,49 @@ fn direction() {
 }
 
 #[test]
+fn post_numbers() {
+    let mut random = Random::from_environment("post_numbers");
+    let mut tally = Tally::default();
+    for i in 0..calls() {
+        let (parent, mut rank) = random.any_table(100);
+        let n = parent.len();
+        let (mut mine_f, mut mine_l) = (random.list(n), random.list(n));
+        for list in [&mut rank, &mut mine_f, &mut mine_l] {
+            lend(&mut random, list);
+        }
+        let (mut f, mut l, mut lent) = (mine_f.clone(), mine_l.clone(), Lent::new(&mut random, n));
+        let called = raw::post_numbers(&parent, &rank, &mut f, &mut l, &mut lent.work, &mut lent.reply);
+        let right = lent.right(|work| reference::post_numbers(&parent, &rank, &mut mine_f, &mut mine_l, work));
+        let said = format!("call {i}: post_numbers({parent:?}, {rank:?})");
+        lent.compare(&said, called, right, spares_work);
+        assert_eq!((mine_f, mine_l), (f, l), "{said}");
+        tally.note(right);
+    }
+    tally.print("post_numbers");
+    tally.has_all(&[1, 3, 4, 5, 6, 7]);
+}
+
+/// A lot is in another's subtree exactly when its number lies between the other's two.
+#[test]
+fn subtrees() {
+    let mut random = Random::from_environment("subtrees");
+    for _ in 0..calls() / 100 {
+        let lots = random.lots(60);
+        let (parent, rank) = random.table(lots);
+        let mine = reference::accept_lists(&parent, &rank).unwrap();
+        let theirs = lineage::Tree::new(parent, rank).unwrap();
+        let (numbers, n) = (theirs.post_numbers(), lots as u32);
+        for z in 0..n {
+            let above = mine.way_up(z as usize);
+            for v in 0..n {
+                assert_eq!(numbers.under(v, z), above.contains(&(v as usize)), "{z} under {v} in {theirs:?}");
+            }
+            assert!(!numbers.under(n, z) && !numbers.under(z, n), "there is no lot {n} in {theirs:?}");
+        }
+    }
+}
+
+#[test]
 fn check() {
     let mut random = Random::from_environment("check");
     let mut tally = Tally::default();
@@ -371,12 +417,27 @@ fn limits_of_lots(shape: &str, n: usize) {
     }
 }
 
+/// The post numbers of n lots. The plain version goes through every subtree, so a large chain takes it too long.
+fn limits_of_numbers(shape: &str, n: usize) {
+    let (parent, rank) = shaped(shape, n);
+    let (mut mine_f, mut mine_l) = (vec![8; n], vec![9; n]);
+    let (mut f, mut l, mut lent) = (mine_f.clone(), mine_l.clone(), Lent::of(vec![3; 4 * n], vec![0; 3]));
+    let called = raw::post_numbers(&parent, &rank, &mut f, &mut l, &mut lent.work, &mut lent.reply);
+    let right = reference::post_numbers(&parent, &rank, &mut mine_f, &mut mine_l, 4 * n);
+    lent.compare(&format!("{shape} {n}"), called, right, spares_work);
+    assert!((mine_f, mine_l) == (f, l), "{shape} {n}");
+    assert_eq!(right[0], (n <= 65_536) as i64);
+}
+
 /// 65,536 and 65,537 lots, of each shape. The plain version walks by recursion, so it has a stack of its own.
 #[test]
 fn lots_at_the_limits() {
     let large = std::thread::Builder::new().stack_size(1 << 30).spawn(|| {
         for (shape, n) in [("chain", 65_536), ("star", 65_536), ("binary", 65_536), ("chain", 65_537)] {
             limits_of_lots(shape, n);
+        }
+        for (shape, n) in [("star", 65_536), ("binary", 65_536), ("chain", 65_537)] {
+            limits_of_numbers(shape, n);
         }
     });
     large.unwrap().join().unwrap();
