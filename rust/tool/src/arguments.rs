@@ -68,7 +68,7 @@ static PLACES: Opt = Opt {
 };
 static BACK: Opt = option("--back", "", "turn a tree file, with the names beside it, into an outline");
 
-pub static COMMANDS: [Command; 8] = [
+pub static COMMANDS: [Command; 9] = [
     Command {
         name: "draw",
         words: &["TREE"],
@@ -101,6 +101,15 @@ pub static COMMANDS: [Command; 8] = [
         summary: "a direction along which the path between two lots rises",
         about: "Prints 'D E'; a line that goes (across, up) rises along it when D * across + E * up is above 0.",
         options: &[&RULE],
+    },
+    Command {
+        name: "numbers",
+        words: &["TREE"],
+        summary: "which post numbers lie under each lot",
+        about: "Lots are numbered in post-order, from 1. Prints a line 'LOT FIRST LAST' for each: the numbers FIRST to \
+                LAST belong to LOT, and LAST is its own. A lot is in another's subtree exactly when its LAST is one of \
+                the other's numbers.",
+        options: &[&OUT],
     },
     Command {
         name: "outline",

@@ -8,7 +8,7 @@ use crate::plan::Ask;
 use crate::sheetfile::{self, Saved, Words};
 use crate::stop::{misuse, refused, Stop, REFUSED};
 use crate::{completion, help, manual, outline};
-use lineage::{check, Frame, Rule, Sheet, Verdict};
+use lineage::{check, Frame, PostNumbers, Rule, Sheet, Verdict};
 use std::ffi::OsStr;
 use std::io::Write;
 
@@ -18,6 +18,7 @@ pub fn run(given: &Given) -> Result<(), Stop> {
         "sheet" => sheet_command(given),
         "check" => check_command(given),
         "direction" => direction_command(given),
+        "numbers" => numbers_command(given),
         "outline" => outline_command(given),
         "completion" => completion_command(given),
         "man" => files::write(None, manual::page().as_bytes()),
@@ -142,6 +143,13 @@ fn direction_command(given: &Given) -> Result<(), Stop> {
     let along = lineage::direction(&source.tree, rule, u, v);
     let along = along.map_err(refused(format!("{}: lots {u} and {v}", source.file)))?;
     files::write(None, format!("{} {}\n", along.d, along.e).as_bytes())
+}
+
+fn numbers_command(given: &Given) -> Result<(), Stop> {
+    let PostNumbers { first, last } = files::source(&given.words[0])?.tree.post_numbers();
+    let both = first.iter().zip(&last).enumerate();
+    let text: String = both.map(|(lot, (first, last))| format!("{lot} {first} {last}\n")).collect();
+    files::write(given.one("-o"), text.as_bytes())
 }
 
 fn outline_command(given: &Given) -> Result<(), Stop> {

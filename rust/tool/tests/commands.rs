@@ -62,6 +62,18 @@ fn directions_and_checks() {
 }
 
 #[test]
+fn post_numbers() {
+    let (tree, saved) = (five("post-numbers.tree"), place("post-numbers.txt"));
+    assert_eq!(out(&["numbers", &tree]), "0 1 5\n1 1 3\n2 4 4\n3 1 1\n4 2 2\n");
+    assert_eq!(out(&["numbers", &tree, "-o", &saved]), "");
+    assert_eq!(std::fs::read_to_string(&saved).unwrap(), out(&["numbers", &tree]));
+    assert_eq!(out(&["numbers", &file("one.txt", b"a\n")]), "0 1 1\n");
+    let doubled = file("doubled.tree", &[2u32, 0, 0, 0, 1].map(u32::to_le_bytes).concat());
+    let (status, message) = fails(&["numbers", &doubled]);
+    assert!(status == 1 && message.contains("doubled.tree") && message.contains("(6) at lot 1"), "{message}");
+}
+
+#[test]
 fn outlines_keep_names_and_numbers() {
     let outline = file("outline.txt", b"a\n  b\n    c\n    d\n  e\n");
     let tree = place("outline.tree");
@@ -101,7 +113,7 @@ fn files_of_the_wrong_kind_are_told() {
     let (five, outline) = (five("kinds.tree"), file("kinds.txt", b"a\n  b\n"));
     assert!(fails(&["outline", &five]).1.contains("kinds.tree: is a tree file, not an outline"));
     assert!(fails(&["outline", "--back", &outline]).1.contains("kinds.txt: is text already, not a tree file"));
-    for command in ["draw", "sheet", "check"] {
+    for command in ["draw", "sheet", "check", "numbers"] {
         out(&[command, &outline]);
     }
     assert_eq!(out(&["direction", &outline, "0", "1"]), "1 1\n");
@@ -183,7 +195,7 @@ fn conventions() {
     assert_eq!(out(&["--version"]), format!("lineage {}\n", env!("CARGO_PKG_VERSION")));
     assert_eq!(out(&["-h"]), out(&["--help"]));
     assert_eq!(out(&["help"]), out(&["--help"]));
-    for command in ["draw", "sheet", "check", "direction", "outline", "completion", "man", "help"] {
+    for command in ["draw", "sheet", "check", "direction", "numbers", "outline", "completion", "man", "help"] {
         let help = out(&[command, "--help"]);
         assert!(help.starts_with(&format!("lineage {command}")) && help.contains("Exit status:"));
         assert_eq!(out(&[command, "-h"]), help);
@@ -205,6 +217,7 @@ fn wrong_uses_are_told_in_a_line() {
         &["check", &tree, "--places", &tree, "--rule", "steep"],
         &["check", &tree, "--sheet", &tree, "--rule", "steep"],
         &["direction", &tree, "1", "2", "--sheet", &tree],
+        &["numbers", &tree, "--rule", "steep"],
         &["draw", &tree, "--page", "A9"],
         &["draw", &tree, "--lengthen", "1"],
         &["draw", &tree, "--lengthen", "1:x"],
@@ -248,7 +261,7 @@ fn bash_completes() {
 #[test]
 fn the_manual_page_tells_what_the_help_tells() {
     let page = out(&["man"]).replace("\\-", "-");
-    for command in ["draw", "sheet", "check", "direction", "outline"] {
+    for command in ["draw", "sheet", "check", "direction", "numbers", "outline"] {
         let help = out(&[command, "--help"]);
         for option in help.lines().filter_map(|line| line.strip_prefix("    -")) {
             let name = format!(".B -{}", option.split_whitespace().next().unwrap());
