@@ -8,15 +8,15 @@ use native.Mathlib.Omega.{arith}
 use lib.Dec.{leb, eqb}
 use lib.ListN.{length}
 use borrow.Author.Tests.{le-leb, lt-leb, eq-eqb, ne-eqb}
-use Rattle.laws.specs.Refusals.{some-not-none, orElse-first, orElse-second, orElse-none, refuse-yes, refuse-no}
+use Rattle.laws.specs.Refusals.{orElse-first, orElse-second, refuse-yes, refuse-no}
 use Rattle.laws.specs.Search.{Refusal, refuse, refusedOr}
 use Rattle.laws.specs.Tests.{either-first, either-second, neither-is}
 use Rattle.table.specs.declared.Limits.{Limits}
 use Rattle.table.specs.declared.Validity.{Validity}
 use Rattle.table.specs.declared.Validity.the-variants.{Accepted, Refused as Invalid}
-use Rattle.table.specs.Table.{large, shapeFault, treeFault, tableFault}
-use Rattle.table.specs.Acceptance.{accepting, validity-accepted, validity-refused}
-use Rattle.table.specs.Parts.{Validated, Ready}
+use Rattle.table.specs.Table.{large, tableFault}
+use Rattle.table.specs.Acceptance.{accepting, not-spared, validity-accepted, validity-refused}
+use Rattle.table.specs.Parts.{Validated, Ready, ready}
 use Rattle.slopes.specs.declared.Rule.{Rule}
 use Rattle.direction.specs.declared.Heading.{Heading}
 use Rattle.direction.specs.declared.Heading.the-variants.{Refused}
@@ -78,24 +78,14 @@ module _ (P R : List ℕ) (rule : Rule) (u v : ℕ) {L : Limits} (is-large : L �
     no-fault = validity-accepted (tableFault large P R true (length W)) (sym (validated .answer) ∙ e)
 
     pub table-ready : Ready P R X × (length P ≤ large .nodes)
-    table-ready =
-        let accepted = accepting large P R true (length W) no-fault in (
-          record {
-            tree = accepted .tree;
-            few = omega arith;
-            long = validated .kept .long ∙ accepted .shape .work-long;
-            started = validated .started e;
-          },
-          accepted .shape .few,
-        )
+    table-ready = (ready validated (omega arith) e, accepting large P R true (length W) no-fault .shape .few)
 
     -- whatever is left in the work list then
     pub table-accepted : (Y : List ℕ) {a : Heading} → length Y ≡ length W → PairAnswered P R rule u v a
         → Directed large P R rule W Y u v a
-    unfolding direction tableFault
+    unfolding direction
     table-accepted Y {a} same q = record {
       says = q .answer ∙ ap (λ f. refusedOr Refused f (course P R rule u v)) (sym (orElse-second _ _ no-fault));
-      spared = λ f s. absurd (some-not-none (sym s
-          ∙ orElse-none (shapeFault large P R true (length W)) (treeFault P R) no-fault .0));
+      spared = λ f s. absurd (not-spared large P R true (length W) no-fault s);
       long = same;
     }

@@ -17,6 +17,7 @@ use lib.Dec.{leb, eqb}
 use lib.ListN.{length, getD}
 use borrow.Author.Tests.{eqb-true, eq-eqb, ne-eqb, leb-true, le-leb}
 use Rattle.laws.specs.Tests.{by-eq, by-lt, both, both-is}
+use Rattle.table.specs.Acceptance.{two-long}
 use Rattle.table.specs.Numbering.{numbering}
 use Rattle.table.specs.Table.{parent, postNumber, allLong}
 use Rattle.table.specs.TableLaws.{Tree}
@@ -63,9 +64,8 @@ pub three-long : (n : ℕ) (s : Drawing) → allLong n (s .times ∷ s .x ∷ s 
 unfolding allLong
 three-long n s e =
     let t = both (eqb (length (s .times)) n) _ e in
-    let x = both (eqb (length (s .x)) n) _ (t .1) in
-    let y = both (eqb (length (s .y)) n) _ (x .1) in
-    (eqb-true _ n (t .0), eqb-true _ n (x .0), eqb-true _ n (y .0))
+    let places = two-long n (s .x) (s .y) (t .1) in
+    (eqb-true _ n (t .0), places .0, places .1)
 
 ------------------------------------------------------------------------
 -- The test of a node

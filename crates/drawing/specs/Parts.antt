@@ -3,8 +3,8 @@
 --   Framable X Y           == the frame of the places X and Y is two numbers of 32 bits
 --   FramesFit L            == so is every frame within the limits L
 --   Sized P R s W          == the lists of s are as long as the table, which is numbered
---   Prepared L .. r        == refusals 1 to 7 of a call on the drawing s; if none, it is so
 --   Blank P R rule s W     == and a fresh drawing has places below 2^32
+--   Prepared L .. r        == refusals 1 to 7 of a call on the drawing s; if none, s is Sized
 use mathlib.Core.List.{List}
 use mathlib.Core.Path.{_≡_, ap, subst⁻¹}
 use Prim.Native.Nat.{ℕ, _+_, _^_, _<_}

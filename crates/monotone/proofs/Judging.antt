@@ -1,25 +1,21 @@
 -- From the refusals to the pairs: what an accepted table and its places give, and what each answer of the check says.
-use mathlib.Core.Bool.{Bool, true}
+use mathlib.Core.Bool.{Bool}
 use mathlib.Core.List.{List, [], _∷_}
 use mathlib.Core.Option.{none, some}
 use mathlib.Core.Path.{_≡_, refl, sym, ap, subst, subst⁻¹, _∙_}
 use Prim.Native.Nat.{ℕ, _+_, _*_, _≤_, _<_}
 use native.Mathlib.Omega.{arith}
-use lib.Dec.{eqb}
 use lib.ListN.{length, getD}
-use borrow.Author.Tests.{eqb-true}
-use Rattle.laws.specs.Refusals.{refusal, some-not-none, orElse-first, orElse-second, orElse-none, refuseLeast-yes}
-use Rattle.laws.specs.Refusals.{refuseLeast-no}
+use Rattle.laws.specs.Refusals.{refusal, orElse-first, orElse-second, refuseLeast-yes, refuseLeast-no}
 use Rattle.laws.specs.Regions.{Only}
 use Rattle.laws.specs.Search.{least, Refusal}
 use Rattle.laws.specs.SearchLaws.{least-none}
-use Rattle.laws.specs.Tests.{both}
-use Rattle.table.specs.Acceptance.{Accepting, accepting, validity-accepted, validity-refused}
+use Rattle.table.specs.Acceptance.{Accepting, accepting, two-long, not-spared, validity-accepted, validity-refused}
 use Rattle.table.specs.declared.Limits.{Limits}
 use Rattle.table.specs.declared.Validity.the-variants.{Accepted, Refused}
 use Rattle.table.specs.Numbering.{Numbering, Numbered, numbering, number-at}
 use Rattle.table.specs.Table.{order, postNumber, allLong, shapeFault, tableFault, large, farthest}
-use Rattle.table.specs.Parts.{Validated}
+use Rattle.table.specs.Parts.{Validated, ready}
 use Rattle.monotone.specs.declared.Verdict.{Verdict}
 use Rattle.monotone.specs.declared.Verdict.the-variants as verdict
 use Rattle.monotone.specs.Monotone.{placeBeyond, checkFault, Says, Checked}
@@ -94,16 +90,13 @@ module _ (x y : List ℕ) {L : Limits} {P R : List ℕ} {long : Bool} {W X : Lis
 
     -- the refusals that spare the work list have passed
     passed : {Y : List ℕ} (f : Refusal) → shapeFault L P R (allLong (length P) (x ∷ y ∷ [])) (length W) ≡ some f → Y ≡ W
-    unfolding tableFault
-    passed f e = absurd (some-not-none (sym e ∙ orElse-none _ _ accepted .0))
+    passed f e = absurd (not-spared L P R _ (length W) accepted e)
 
     pub x-long : length x ≡ length P
-    unfolding allLong
-    x-long = eqb-true _ _ (both _ _ (known .shape .others) .0)
+    x-long = two-long (length P) x y (known .shape .others) .0
 
     pub y-long : length y ≡ length P
-    unfolding allLong
-    y-long = eqb-true _ _ (both _ true (both (eqb (length x) (length P)) _ (known .shape .others) .1) .0)
+    y-long = two-long (length P) x y (known .shape .others) .1
 
     pub few-nodes : L .nodes ≤ large .nodes → length P ≤ large .nodes
     few-nodes nodes = omega (arith, known .shape .few)
@@ -146,12 +139,7 @@ module _ (x y : List ℕ) {L : Limits} {P R : List ℕ} {long : Bool} {W X : Lis
 
         pub judged : L .nodes ≤ large .nodes → L .place ≤ farthest → Judged P R x y X
         judged nodes place = record {
-          ready = record {
-            tree = known .tree;
-            few = omega (arith, known .shape .few);
-            long = t .kept .long ∙ known .shape .work-long;
-            started = t .started refl;
-          };
+          ready = ready t (omega arith) refl;
           few = few-nodes nodes;
           across = record { inside = known .tree .inside; long = x-long; within = λ w l. omega (arith, within w l .0) };
           up = record { inside = known .tree .inside; long = y-long; within = λ w l. omega (arith, within w l .1) };

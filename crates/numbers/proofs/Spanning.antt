@@ -2,21 +2,19 @@
 use mathlib.Core.Bool.{Bool}
 use mathlib.Core.List.{List}
 use mathlib.Core.Path.{_≡_, sym, ap, ap₂, subst, _∙_}
-use Prim.Native.Nat.{ℕ, _+_, _*_, _^_, _<_}
+use Prim.Native.Nat.{ℕ, _*_, _^_, _<_}
 use native.Mathlib.Omega.{arith}
 use lib.ListN.{length, getD}
-use borrow.Author.Tests.{eqb-true}
 use Rattle.laws.specs.Refusals.{settle-none, settle-some}
 use Rattle.laws.specs.SearchLaws.{tabulate-is}
-use Rattle.laws.specs.Tests.{both}
-use Rattle.table.specs.Acceptance.{Shape, accepting}
+use Rattle.table.specs.Acceptance.{Shape, accepting, two-long}
 use Rattle.table.specs.declared.Counted.the-variants.{Nodes, Refused}
 use Rattle.table.specs.declared.Limits.{Limits}
 use Rattle.table.specs.declared.Validity.{Validity}
 use Rattle.table.specs.declared.Validity.the-variants.{Accepted, Refused as Invalid}
 use Rattle.table.specs.Numbering.{Numbered}
 use Rattle.table.specs.Parts.{Copied, Prepared, fault, no-fault}
-use Rattle.table.specs.Table.{large, allLong, firstNumber, postNumber}
+use Rattle.table.specs.Table.{large, firstNumber, postNumber}
 use Rattle.numbers.specs.PostNumbers.{Spans, spans, bothLong, spansOf, postNumbers, Spanned}
 
 -- the lists of an accepted call
@@ -47,10 +45,7 @@ module _ (P R : List ℕ) (s : Spans) {L : Limits} (is-large : L ≡ large) {lon
     shape = accepting large P R _ (length W) (no-fault prepared ok) .shape
 
     lengths : (length (s .first) ≡ length P) × (length (s .last) ≡ length P)
-    unfolding allLong
-    lengths =
-        let a = both _ _ (shape .others) in
-        (eqb-true _ _ (a .0), eqb-true _ _ (both _ _ (a .1) .0))
+    lengths = two-long (length P) (s .first) (s .last) (shape .others)
 
     pub room : Room P s X
     room = record {

@@ -14,7 +14,7 @@ use Rattle.laws.specs.Regions.{Only, only-refl, only-trans, only-within}
 use Rattle.laws.specs.Search.{least, Refusal, refuse, refuseLeast}
 use Rattle.laws.specs.SearchLaws.{least-none}
 use Rattle.laws.specs.Tests.{by-lt, differ, false-of, both, both-is}
-use Rattle.table.specs.Acceptance.{shaped, shape-fits, accepting, validity-accepted, validity-refused, validity}
+use Rattle.table.specs.Acceptance.{shaped, shape-fits, not-spared, validity-accepted, validity-refused, validity}
 use Rattle.table.specs.declared.Limits.{Limits}
 use Rattle.table.specs.declared.Validity.{Validity}
 use Rattle.table.specs.declared.Validity.the-variants.{Accepted, Refused}
@@ -22,7 +22,7 @@ use Rattle.table.specs.Table.{parent, rank, strayParent, badRank, adrift
 use Rattle.table.specs.TableLaws.{stray-yes}
 use Rattle.table.specs.Numbering.{Numbered}
 use Rattle.table.specs.Parts.{Scratch, Zeroed, Started, Occupied, Lengths, Rooted, Structured, Validated}
-use Rattle.table.specs.Parts.{Ready, Prepared}
+use Rattle.table.specs.Parts.{ready, Prepared}
 
 validity-of : {f : Option Refusal} {k v : ℕ} → f ≡ refusal k v → Refused k v ≡ validity f
 unfolding validity
@@ -207,12 +207,6 @@ module _ (L : Limits) (P R : List ℕ) (long : Bool) (W : List ℕ) {r : Validit
 ------------------------------------------------------------------------
 -- The table is tested, then numbered
 
--- where the table is accepted, the work list may change
-never-spared : (L : Limits) (P R : List ℕ) (long : Bool) (work : ℕ) (f : Refusal) → tableFault L P R long work ≡ none
-    → shapeFault L P R long work ≡ some f → ⊥
-unfolding tableFault
-never-spared L P R long work f e g = some-not-none (sym (orElse-first _ (treeFault P R) g) ∙ e)
-
 module _ (L : Limits) (P R : List ℕ) {long : Bool} {W X : List ℕ} {r : Validity} (v : Validated L P R long W X r) where
   pub prepared-refused : {k z : ℕ} → r ≡ Refused k z → Prepared L P R long W X (Refused k z)
   prepared-refused e = record {
@@ -222,26 +216,14 @@ module _ (L : Limits) (P R : List ℕ) {long : Bool} {W X : List ℕ} {r : Valid
     left = λ a. absurd (refused-not-accepted a);
   }
 
-  none-left : r ≡ Accepted → tableFault L P R long (length W) ≡ none
-  none-left e = validity-accepted _ (sym (v .answer) ∙ e)
-
-  pub prepared-ready : L .nodes < 2 ^ 32 → r ≡ Accepted → Ready P R X
-  prepared-ready few e =
-      let a = accepting L P R _ (length W) (none-left e) in
-      record {
-        tree = a .tree;
-        few = omega arith;
-        long = v .kept .long ∙ a .shape .work-long;
-        started = v .started e;
-      }
-
   pub prepared-accepted : {Y : List ℕ} → L .nodes < 2 ^ 32 → r ≡ Accepted → Numbered P R Y
       → Prepared L P R long W Y Accepted
   prepared-accepted few e n =
-      let a = prepared-ready few e in
+      let none-left = validity-accepted (tableFault L P R long (length W)) (sym (v .answer) ∙ e) in
+      let a = ready v few e in
       record {
         answer = sym e ∙ v .answer;
-        spared = λ f g. absurd (never-spared L P R _ (length W) f (none-left e) g);
-        long = n .long ∙ sym (accepting L P R _ (length W) (none-left e) .shape .work-long);
+        spared = λ f g. absurd (not-spared L P R long (length W) none-left g);
+        long = n .long ∙ sym (a .long) ∙ v .kept .long;
         left = λ q. record { tree = a .tree; few = a .few; numbers = n };
       }

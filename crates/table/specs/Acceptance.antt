@@ -3,9 +3,11 @@
 --   Shape L ..       == what refusals 1 to 3 leave
 --   Accepting L ..   == what refusals 1 to 7 leave
 --   validity f       == whether a table is one: refusal f, or accepted
+--   two-long         == two lists that are lent besides, by their test
+--   not-spared       == an accepted table has none of the refusals that leave the work list alone
 --   RanksUsedOnce    == the ranks of a node's children are 0, 1, .., each used by one
 use mathlib.Core.Bool.{Bool, true, false, not}
-use mathlib.Core.List.{List}
+use mathlib.Core.List.{List, [], _∷_}
 use mathlib.Core.Logic.{_↔_}
 use mathlib.Core.Option.{Option, none, some}
 use mathlib.Core.Path.{_≡_, refl, sym, ap, ap₂, subst, _∙_}
@@ -14,7 +16,8 @@ use native.Mathlib.Omega.{arith}
 use lib.Dec.{eqb}
 use lib.ListN.{length}
 use borrow.Author.Tests.{eqb-true, eqb-false, ltb-false, not-false, le-ltb, eq-eqb, ne-eqb}
-use Rattle.laws.specs.Refusals.{refusal, orElse-second, orElse-none, refuse-no, refuse-none, refuseLeast-none}
+use Rattle.laws.specs.Refusals.{refusal, some-not-none, orElse-second, orElse-none, refuse-no, refuse-none}
+use Rattle.laws.specs.Refusals.{refuseLeast-none}
 use Rattle.laws.specs.Search.{Refusal, refusedOr}
 use Rattle.laws.specs.SearchLaws.{count-two}
 use Rattle.laws.specs.Tests.{by-eq, by-lt, differ, both, both-is, trichotomy}
@@ -24,7 +27,7 @@ use Rattle.table.specs.declared.Limits.{Limits}
 use Rattle.table.specs.declared.Validity.{Validity}
 use Rattle.table.specs.declared.Validity.the-variants.{Accepted, Refused}
 use Rattle.table.specs.Table.{parent, rank, climb, leads, children, childAt, strayParent, badRank, adrift}
-use Rattle.table.specs.Table.{shapeFault, treeFault, tableFault}
+use Rattle.table.specs.Table.{allLong, shapeFault, treeFault, tableFault}
 use Rattle.table.specs.TableLaws.{Tree, tree-ranked, stray-yes, bad-high, bad-shared, adrift-yes}
 
 unfoldable pub validity : Option Refusal → Validity
@@ -68,6 +71,12 @@ shape-fits {L} {P} {R} {long} {work} s =
     ∙ orElse-second _ _ (refuse-no _ (L .many) 0 (le-ltb (L .nodes) (length P) (s .few)))
     ∙ refuse-no _ 3 0 (ap not (both-is (eq-eqb (length R) (length P) (s .ranks))
     (both-is (s .others) (eq-eqb work (4 * length P) (s .work-long)))))
+
+pub two-long : (n : ℕ) (a b : List ℕ) → allLong n (a ∷ b ∷ []) ≡ true → (length a ≡ n) × (length b ≡ n)
+unfolding allLong
+two-long n a b e =
+    let first = both _ _ e in
+    (eqb-true _ _ (first .0), eqb-true _ _ (both _ _ (first .1) .0))
 
 ------------------------------------------------------------------------
 -- The tree
@@ -122,6 +131,11 @@ accepting L P R long work e =
     let a = orElse-none (shapeFault L P R long work) (treeFault P R) e in
     let s = shaped L P R long work (a .0) in
     record { shape = s; tree = tree-of P R (s .some) (s .ranks) (a .1) }
+
+pub not-spared : (L : Limits) (P R : List ℕ) (long : Bool) (work : ℕ) {f : Refusal} → tableFault L P R long work ≡ none
+    → shapeFault L P R long work ≡ some f → ⊥
+unfolding tableFault
+not-spared L P R long work e g = some-not-none (sym g ∙ orElse-none _ (treeFault P R) e .0)
 
 ------------------------------------------------------------------------
 -- The answer

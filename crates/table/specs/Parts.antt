@@ -33,7 +33,7 @@ use Rattle.table.specs.declared.Validity.{Validity}
 use Rattle.table.specs.declared.Validity.the-variants.{Accepted, Refused}
 use Rattle.table.specs.Table.{parent, rank, climb, children, isChildAt, order, postNumber, firstNumber}
 use Rattle.table.specs.Table.{treeFault, shapeFault, tableFault}
-use Rattle.table.specs.Acceptance.{validity, validity-accepted, validity-refused}
+use Rattle.table.specs.Acceptance.{accepting, validity, validity-accepted, validity-refused}
 use Rattle.table.specs.Numbering.{NumberedTree}
 use Rattle.table.specs.TableLaws.{Tree}
 
@@ -126,6 +126,17 @@ pub record Ready (P R W : List ℕ) : Type 0 where
   pub few : length P < 2 ^ 32
   pub long : length W ≡ 4 * length P
   pub started : Started P W
+
+pub ready : {L : Limits} {P R : List ℕ} {long : Bool} {W X : List ℕ} {r : Validity} → Validated L P R long W X r
+    → L .nodes < 2 ^ 32 → r ≡ Accepted → Ready P R X
+ready {L} {P} {R} {long} {W} v few e =
+    let a = accepting L P R long (length W) (validity-accepted _ (sym (v .answer) ∙ e)) in
+    record {
+      tree = a .tree;
+      few = omega arith;
+      long = v .kept .long ∙ a .shape .work-long;
+      started = v .started e;
+    }
 
 -- the first slots and the slots, for the walk
 pub record Seated (P R W : List ℕ) : Type 0 where

@@ -1,6 +1,7 @@
 -- A refused table is left; an accepted one is ready to be numbered.
 use native.Mathlib.Omega.{arith}
-use Rattle.table.proofs.Validation.{prepared-refused, prepared-ready, prepared-accepted}
+use Rattle.table.specs.Parts.{ready}
+use Rattle.table.proofs.Validation.{prepared-refused, prepared-accepted}
 use borrow.Author.Needs.{needs}
 use Rattle.table.proofs.prepare.Statement.{statement}
 use Rattle.table.proofs.prepare.Tie as tie
@@ -15,8 +16,7 @@ number-requires : tie.Need-number-requires
 number-requires c κs =
     let told = c .before in
     let given = start (validated told) in
-    prepared-ready (given .args .limits) _ _ (validated told .validate .ensures) (omega arith)
-    (told .enum-told .given .1)
+    ready (validated told .validate .ensures) (omega arith) (told .enum-told .given .1)
 
 returns : tie.Need-returns
 returns c =
