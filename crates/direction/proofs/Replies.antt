@@ -5,11 +5,11 @@ use mathlib.Core.Option.{Option, none}
 use mathlib.Core.Path.{_≡_, refl, sym, ap, subst, _∙_}
 use Prim.Native.Nat.{ℕ, _≤_, _<_}
 use native.Mathlib.Omega.{arith}
-use lib.Dec.{leb, eqb}
+use lib.Dec.{leb}
 use lib.ListN.{length}
-use borrow.Author.Tests.{le-leb, lt-leb, eq-eqb, ne-eqb}
+use borrow.Author.Tests.{le-leb, lt-leb}
 use Rattle.laws.specs.Refusals.{orElse-first, orElse-second, refuse-yes, refuse-no}
-use Rattle.laws.specs.Search.{Refusal, refuse, refusedOr}
+use Rattle.laws.specs.Search.{Refusal, refusedOr}
 use Rattle.laws.specs.Tests.{either-first, either-second, neither-is}
 use Rattle.table.specs.declared.Limits.{Limits}
 use Rattle.table.specs.declared.Validity.{Validity}
@@ -24,7 +24,7 @@ use Rattle.direction.specs.Direction.{course, pairFault, direction, Dire
 use Rattle.direction.specs.Parts.{PairAnswered}
 
 ------------------------------------------------------------------------
--- Refusals 9 and 13, and none
+-- Refusal 9, and none
 
 module _ (P R : List ℕ) (rule : Rule) (u v : ℕ) where
   answer-by : (f : Option Refusal) → pairFault (length P) u v ≡ f
@@ -37,23 +37,16 @@ module _ (P R : List ℕ) (rule : Rule) (u v : ℕ) where
   pub no-first : length P ≤ u → PairAnswered P R rule u v (Refused 9 0)
   unfolding pairFault
   no-first h =
-      answer-by _ (orElse-first _ _ (refuse-yes _ 9 0 (either-first (leb (length P) u) _ (le-leb _ u h)))) refl
+      answer-by _ (refuse-yes _ 9 0 (either-first (leb (length P) u) _ (le-leb _ u h))) refl
 
   pub no-second : length P ≤ v → PairAnswered P R rule u v (Refused 9 0)
   unfolding pairFault
   no-second h =
-      answer-by _ (orElse-first _ _ (refuse-yes _ 9 0 (either-second (leb (length P) u) _ (le-leb _ v h)))) refl
+      answer-by _ (refuse-yes _ 9 0 (either-second (leb (length P) u) _ (le-leb _ v h))) refl
 
-  module _ (lu : u < length P) (lv : v < length P) where
-    both-nodes : pairFault (length P) u v ≡ refuse (eqb u v) 13 0
-    unfolding pairFault
-    both-nodes = orElse-second _ _ (refuse-no _ 9 0 (neither-is (lt-leb (length P) u lu) (lt-leb (length P) v lv)))
-
-    pub one-node : u ≡ v → PairAnswered P R rule u v (Refused 13 0)
-    one-node e = answer-by _ (both-nodes ∙ refuse-yes _ 13 0 (eq-eqb u v e)) refl
-
-    pub two-nodes : (u ≡ v → ⊥) → {r : Heading} → r ≡ course P R rule u v → PairAnswered P R rule u v r
-    two-nodes ne e = answer-by _ (both-nodes ∙ refuse-no _ 13 0 (ne-eqb u v ne)) e
+  pub both-nodes : u < length P → v < length P → {r : Heading} → r ≡ course P R rule u v → PairAnswered P R rule u v r
+  unfolding pairFault
+  both-nodes lu lv = answer-by _ (refuse-no _ 9 0 (neither-is (lt-leb (length P) u lu) (lt-leb (length P) v lv)))
 
 ------------------------------------------------------------------------
 -- After validation, which leaves X in the work list W

@@ -1,4 +1,4 @@
--- The direction of a tree path (document 01, "Direction"; refusals 9 and 13).
+-- The direction of a tree path (document 01, "Direction"; document 02, request 109; refusal 9).
 --
 -- s gives each node the slope of its edge.
 --
@@ -7,15 +7,16 @@
 --                               children of their lowest common ancestor towards u and towards v
 --   heading P R s u v i j    == the direction from u to v; i and j are the steps from u and from v to that ancestor
 --   course P R rule u v      == the direction from u to v under the rule
---   pairFault n u v          == refusals 9 and 13
---   direction L ..           == the call: refusals 1 to 7 at the limits L, then these, or the direction
+--   pairFault n u v          == refusal 9
+--   direction L ..           == the call: refusals 1 to 7 at the limits L, then 9, or the direction, from a node to
+--                               itself too
 --   Directed ..              == the call's contract
 use mathlib.Core.Bool.{true, cond, _||_}
 use mathlib.Core.List.{List}
 use mathlib.Core.Option.{Option}
 use mathlib.Core.Path.{_≡_}
 use Prim.Native.Nat.{ℕ, zero, suc}
-use lib.Dec.{ltb, leb, eqb}
+use lib.Dec.{ltb, leb}
 use lib.IntN.{pos, negℤ}
 use lib.ListN.{length}
 use Rattle.laws.specs.Search.{Refusal, refuse, _orElse_, refusedOr}
@@ -51,7 +52,7 @@ course P R rule u v = heading P R (edge P R rule) u v (stepsUp P u v) (stepsUp P
 -- The call
 
 unfoldable pub pairFault : ℕ → ℕ → ℕ → Option Refusal
-pairFault n u v = refuse (leb n u || leb n v) 9 0 orElse refuse (eqb u v) 13 0
+pairFault n u v = refuse (leb n u || leb n v) 9 0
 
 -- work: the length of the work list, whose contents don't matter
 unfoldable pub direction : Limits → List ℕ → List ℕ → Rule → ℕ → ℕ → ℕ → Heading

@@ -23,8 +23,9 @@ unfoldable pub cases : List Case
 cases =
     -- up to an ancestor
     record { start = 4; end = 0; answer = Along (negℤ (pos 1)) (negℤ (pos 1)) }
-    -- from a lot to itself; 9 comes before 13
-    ∷ record { start = 3; end = 3; answer = Refused 13 0 }
+    -- from the root to itself
+    ∷ record { start = 0; end = 0; answer = Along (pos 1) (pos 1) }
+    -- to lot n, which there is not, from itself and from a lot
     ∷ record { start = 5; end = 5; answer = Refused 9 0 }
     ∷ record { start = 4; end = 5; answer = Refused 9 0 }
     ∷ []

@@ -1,6 +1,6 @@
 -- Document 01's cases that are marked [proved], as document 02 changes them: one table, and one theorem about the
--- definitions. Frames count grid cells (request 101), the walk to a balanced slope tells its turns (request 104), and
--- post numbers come with the first of each subtree (request 107).
+-- definitions. Frames count grid cells (request 101), the walk to a balanced slope tells its turns (request 104), post
+-- numbers come with the first of each subtree (request 107), and a lot has a direction to itself (request 109).
 --
 --   Case          == a case, with what document 01 says of it
 --   Holds c       == the definitions say so
@@ -139,6 +139,7 @@ cases =
     ∷ Goes 2 3 (pos 7) (negℤ (pos 2))
     ∷ Goes 4 3 (pos 3) (negℤ (pos 2))
     ∷ Goes 0 4 (pos 1) (pos 1)
+    ∷ Goes 3 3 (pos 1) (pos 1)
     -- lot 1 longer by 2, then shorter by 3 and by 2
     ∷ Calls (lengthen large fiveParents fiveRanks Steep steep 20 1 2) (Frame 5 12) stretchedOne
     ∷ Calls (shorten large fiveParents fiveRanks Steep stretchedOne 20 1 3) (Refused 12 1) stretchedOne
@@ -179,7 +180,7 @@ unfolding AllHold Holds cases count least tabulate climb leads isChild children 
     lotLines sheetOf fileFault placesOfTable textOf sheetText
     monotone.placeBeyond checkFault widen span upward downward pathVectors turnsAt secondNode firstNode decide
 cases-hold =
-    (refl, refl) and refl and refl and refl and refl and refl and refl and refl
+    (refl, refl) and refl and refl and refl and refl and refl and refl and refl and refl
     and refl and refl and refl and (refl, refl) and refl and refl and refl
     and says (0 ∷ 0 ∷ 1 ∷ 2 ∷ []) (0 ∷ 0 ∷ 0 ∷ 0 ∷ []) (0 ∷ 1 ∷ 1 ∷ 0 ∷ []) (0 ∷ 0 ∷ 1 ∷ 1 ∷ [])
     and says (0 ∷ 0 ∷ 1 ∷ []) (0 ∷ 0 ∷ 0 ∷ []) (0 ∷ 1 ∷ 2 ∷ []) (0 ∷ 0 ∷ 0 ∷ [])

@@ -4,6 +4,7 @@ use mathlib.Core.Option.{Option, none, some}
 use mathlib.Core.Path.{_≡_, refl, sym, ap, _∙_}
 use Prim.Native.Nat.{ℕ, _≤_, _<_}
 use native.Mathlib.Omega.{arith}
+use lib.Dec.{ltb}
 use borrow.Author.Tests.{lt-ltb, le-ltb, ltb-false}
 use Rattle.laws.specs.Search.{least, Refusal, refuse, refuseLeast, _orElse_, Outcome, settle}
 use Rattle.laws.specs.SearchLaws.{least-none}
@@ -35,6 +36,11 @@ pub orElse-none : (a b : Option Refusal) → a orElse b ≡ none → (a ≡ none
 orElse-none none b e = (refl, e)
 orElse-none (some g) b e = absurd (some-not-none e)
 
+pub orElse-some : {A : Type 0} (a b : Option Refusal) {f : Refusal} → a orElse b ≡ some f → (a ≡ some f → A)
+    → (b ≡ some f → A) → A
+orElse-some none b e first second = second e
+orElse-some (some g) b e first second = first e
+
 ------------------------------------------------------------------------
 -- A test
 
@@ -50,6 +56,15 @@ pub refuse-none : (b : Bool) (k v : ℕ) → refuse b k v ≡ none → b ≡ fal
 refuse-none true k v e = absurd (some-not-none e)
 refuse-none false k v e = refl
 
+-- the number of what is given, here and where another follows
+pub refuse-number : (b : Bool) (k v : ℕ) {f : Refusal} → refuse b k v ≡ some f → f .number ≡ k
+refuse-number true k v e = cc
+refuse-number false k v e = absurd (some-not-none (sym e))
+
+pub refuse-some : {A : Type 0} (b : Bool) (k v : ℕ) (g : Option Refusal) {f : Refusal} → refuse b k v orElse g ≡ some f
+    → (f .number ≡ k → A) → (g ≡ some f → A) → A
+refuse-some b k v g e first second = orElse-some (refuse b k v) g e (λ q. first (refuse-number b k v q)) second
+
 ------------------------------------------------------------------------
 -- The least node that fails
 
@@ -63,6 +78,10 @@ refuseLeast-no k n test v e l = refuse-no _ k (least test n) (le-ltb (least test
 
 pub refuseLeast-none : (k n : ℕ) (test : ℕ → Bool) → refuseLeast k n test ≡ none → (v : ℕ) → v < n → test v ≡ false
 refuseLeast-none k n test e = least-none test n (ltb-false (least test n) n (refuse-none _ k (least test n) e))
+
+pub refuseLeast-some : {A : Type 0} (k n : ℕ) (test : ℕ → Bool) (g : Option Refusal) {f : Refusal}
+    → refuseLeast k n test orElse g ≡ some f → (f .number ≡ k → A) → (g ≡ some f → A) → A
+refuseLeast-some k n test g = refuse-some (ltb (least test n) n) k (least test n) g
 
 ------------------------------------------------------------------------
 -- A refusal, or the answer with what is left then

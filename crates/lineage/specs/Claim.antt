@@ -79,8 +79,9 @@ module _ (L : Limits) (P R : List ℕ) (rule : Rule) where
 
   -- what is said of the drawing t that the calls leave of s
   pub record Assured (s : Drawing) (calls : List Call) (t : Drawing) : Type 0 where
-    -- for any two different nodes the direction call gives a direction along which every edge of their path rises
-    pub directions : (u v : ℕ) → u < length P → v < length P → u ≢ v
+    -- for any two nodes the direction call gives a direction along which every edge of their path rises; from a node
+    -- to itself the path has no edge
+    pub directions : (u v : ℕ) → u < length P → v < length P
         → (d e : ℤ) × (direction large P R rule (4 * length P) u v ≡ Along d e) × PathRises P (t .x) (t .y) d e u v
     -- no two edges share a point other than a node at which both end
     pub no-crossing : (v w m i j : ℕ) → 1 ≤ v → v < length P → 1 ≤ w → w < length P → v ≢ w

@@ -5,7 +5,7 @@
 --   demand-3      == the claim at the large limits
 use mathlib.Core.Bool.{Bool, true, false, cond}
 use mathlib.Core.List.{List, [], _∷_}
-use mathlib.Core.Logic.{⊎-elim, _≢_, _↔_}
+use mathlib.Core.Logic.{⊎-elim, _↔_}
 use mathlib.Core.Option.{none, some}
 use mathlib.Core.Path.{_≡_, refl, sym, ap, subst⁻¹, _∙_}
 use Prim.Native.Nat.{ℕ, _+_, _*_, _≤_, _<_}
@@ -207,11 +207,11 @@ module _ (L : Limits) (fit : LimitsFit L) (P R : List ℕ) (rule : Rule) (long :
     at-y = r .drawn .y .adds .at;
   }
 
-  directed : (u v : ℕ) → u < length P → v < length P → u ≢ v
+  directed : (u v : ℕ) → u < length P → v < length P
       → (d e : ℤ) × (direction large P R rule (4 * length P) u v ≡ Along d e) × PathRises P (t .x) (t .y) d e u v
-  directed u v lu lv ne =
+  directed u v lu lv =
       direction-rises tree rule stands large (4 * length P) u v
-      (accepted-within L large P R long true work fine (omega (arith, few, fit .few)) refl) lu lv ne
+      (accepted-within L large P R long true work fine (omega (arith, few, fit .few)) refl) lu lv
 
   -- the check refuses nothing here
   unrefused : length P ≤ checked .nodes → checkFault checked P R (t .x) (t .y) (4 * length P) ≡ none
@@ -238,7 +238,7 @@ module _ (L : Limits) (fit : LimitsFit L) (P R : List ℕ) (rule : Rule) (long :
     where
       pair : (u v : ℕ) → u < v → v < length P → HasDirection P (t .x) (t .y) u v
       pair u v l b =
-          let d = directed u v (omega arith) b (λ e. omega arith) in
+          let d = directed u v (omega arith) b in
           record { d = d .0; e = d .1; rises = d .3 }
 
   says : length P ≤ checked .nodes → (a : Verdict)

@@ -5,20 +5,21 @@
 --   validity f       == whether a table is one: refusal f, or accepted
 --   two-long         == two lists that are lent besides, by their test
 --   not-spared       == an accepted table has none of the refusals that leave the work list alone
+--   table-number     == the number of its refusal is at most 7, or the one for too many nodes
 --   RanksUsedOnce    == the ranks of a node's children are 0, 1, .., each used by one
-use mathlib.Core.Bool.{Bool, true, false, not}
+use mathlib.Core.Bool.{Bool, true, false, not, _&&_}
 use mathlib.Core.List.{List, [], _∷_}
-use mathlib.Core.Logic.{_↔_}
+use mathlib.Core.Logic.{_⊎_, inl, inr, _↔_}
 use mathlib.Core.Option.{Option, none, some}
 use mathlib.Core.Path.{_≡_, refl, sym, ap, ap₂, subst, _∙_}
 use Prim.Native.Nat.{ℕ, _*_, _≤_, _<_}
 use native.Mathlib.Omega.{arith}
-use lib.Dec.{eqb}
+use lib.Dec.{ltb, eqb}
 use lib.ListN.{length}
 use borrow.Author.Tests.{eqb-true, eqb-false, ltb-false, not-false, le-ltb, eq-eqb, ne-eqb}
 use Rattle.laws.specs.Refusals.{refusal, some-not-none, orElse-second, orElse-none, refuse-no, refuse-none}
-use Rattle.laws.specs.Refusals.{refuseLeast-none}
-use Rattle.laws.specs.Search.{Refusal, refusedOr}
+use Rattle.laws.specs.Refusals.{orElse-some, refuse-number, refuse-some, refuseLeast-none, refuseLeast-some}
+use Rattle.laws.specs.Search.{least, Refusal, refusedOr}
 use Rattle.laws.specs.SearchLaws.{count-two}
 use Rattle.laws.specs.Tests.{by-eq, by-lt, differ, both, both-is, trichotomy}
 use Rattle.table.specs.Ancestry.{climb-root, leads-in-n, leads-steps}
@@ -136,6 +137,21 @@ pub not-spared : (L : Limits) (P R : List ℕ) (long : Bool) (work : ℕ) {f : R
     → shapeFault L P R long work ≡ some f → ⊥
 unfolding tableFault
 not-spared L P R long work e g = some-not-none (sym g ∙ orElse-none _ (treeFault P R) e .0)
+
+pub table-number : (L : Limits) (P R : List ℕ) (long : Bool) (work : ℕ) {f : Refusal}
+    → tableFault L P R long work ≡ some f → (f .number ≤ 7) ⊎ (f .number ≡ L .many)
+unfolding tableFault shapeFault treeFault
+table-number L P R long work e =
+    orElse-some (shapeFault L P R long work) (treeFault P R) e
+    (λ a. refuse-some (eqb (length P) 0) 1 0 _ a (λ q. inl (omega arith))
+    (λ b. refuse-some (ltb (L .nodes) (length P)) (L .many) 0 _ b inr
+    (λ c.
+    let lengths = eqb (length R) (length P) && (long && eqb work (4 * length P)) in
+    inl (omega (arith, refuse-number (not lengths) 3 0 c)))))
+    (λ a. refuse-some (not (eqb (parent P 0) 0 && eqb (rank R 0) 0)) 4 0 _ a (λ q. inl (omega arith))
+    (λ b. refuseLeast-some 5 (length P) (strayParent P) _ b (λ q. inl (omega arith))
+    (λ c. refuseLeast-some 6 (length P) (badRank P R) _ c (λ q. inl (omega arith))
+    (λ d. inl (omega (arith, refuse-number (ltb (least (adrift P) (length P)) (length P)) 7 _ d))))))
 
 ------------------------------------------------------------------------
 -- The answer

@@ -275,6 +275,10 @@ module _ {P R : List ℕ} (tree : Tree P R) where
   zero-stepsUp u v lu lv e =
       subst (λ (z : ℕ). under P z v ≡ true) (ap (λ (k : ℕ). climb P k u) e ∙ climb-zero P u) (stepsUp-common u v lu lv)
 
+  -- the path from a node to itself has no edge
+  pub stepsUp-self : (u : ℕ) → u < length P → stepsUp P u u ≡ 0
+  stepsUp-self u l = stepsUp-zero u u l l (under-refl u l)
+
   pub stepsUp-some : (u v : ℕ) → u < length P → v < length P → under P u v ≡ false → (i : ℕ) × (stepsUp P u v ≡ suc i)
   stepsUp-some u v lu lv f = go (stepsUp P u v) refl
     where

@@ -1,6 +1,6 @@
--- Refusals 9 and 13 in their order; after them the numbers are written, and the heading is read off them.
+-- Refusal 9; after it the numbers are written, and the heading is read off them.
 use borrow.Author.Needs.{needs}
-use Rattle.direction.proofs.Replies.{no-first, no-second, one-node, two-nodes}
+use Rattle.direction.proofs.Replies.{no-first, no-second, both-nodes}
 use Rattle.direction.proofs.accepted.Statement.{statement}
 use Rattle.direction.proofs.accepted.Tie as tie
 
@@ -19,22 +19,13 @@ returns-2 c =
 
 returns-3 : tie.Need-returns-3
 returns-3 c =
-    let second = c .before in
-    let first = second .before in
-    let args = start first .args in
-    one-node (args .parent .now) (args .rank .now) (args .rule) (args .u) (args .v) (first .if1 .left)
-    (second .if2 .left) (c .if3 .taken)
-
-returns-4 : tie.Need-returns-4
-returns-4 c =
     let numbered = c .before .before .before .before in
-    let different = numbered .before .before in
-    let second = different .before in
+    let second = numbered .before .before in
     let first = second .before in
     let args = start first .args in
-    two-nodes (args .parent .now) (args .rank .now) (args .rule) (args .u) (args .v) (first .if1 .left)
-    (second .if2 .left) (different .if3 .left) (c .heading-of .ensures)
+    both-nodes (args .parent .now) (args .rank .now) (args .rule) (args .u) (args .v) (first .if1 .left)
+    (second .if2 .left) (c .heading-of .ensures)
 
 pub accepted-spec : {M : Type 1} → statement M
-accepted-spec = tie.close (tie.spec returns returns-2 returns-3 (λ c κs. search needs) (λ c κs. search needs)
-    (λ c. search needs) returns-4)
+accepted-spec = tie.close (tie.spec returns returns-2 (λ c κs. search needs) (λ c κs. search needs) (λ c. search needs)
+    returns-3)
