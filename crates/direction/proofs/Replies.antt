@@ -1,10 +1,9 @@
 -- From refusals and headings to the call's answer.
 use mathlib.Core.Bool.{true}
 use mathlib.Core.List.{List}
-use mathlib.Core.Option.{Option, none}
+use mathlib.Core.Option.{Option}
 use mathlib.Core.Path.{_≡_, refl, sym, ap, subst, _∙_}
 use Prim.Native.Nat.{ℕ, _≤_, _<_}
-use native.Mathlib.Omega.{arith}
 use lib.Dec.{leb}
 use lib.ListN.{length}
 use borrow.Author.Tests.{le-leb, lt-leb}
@@ -14,14 +13,14 @@ use Rattle.laws.specs.Tests.{either-first, either-second, neither-is}
 use Rattle.table.specs.declared.Limits.{Limits}
 use Rattle.table.specs.declared.Validity.{Validity}
 use Rattle.table.specs.declared.Validity.the-variants.{Accepted, Refused as Invalid}
-use Rattle.table.specs.Table.{large, tableFault}
-use Rattle.table.specs.Acceptance.{accepting, not-spared, validity-accepted, validity-refused}
-use Rattle.table.specs.Parts.{Validated, Ready, ready}
+use Rattle.table.specs.Table.{large}
+use Rattle.table.specs.Acceptance.{accepting}
+use Rattle.table.specs.Parts.{Prepared, fault, no-fault}
 use Rattle.slopes.specs.declared.Rule.{Rule}
 use Rattle.direction.specs.declared.Heading.{Heading}
 use Rattle.direction.specs.declared.Heading.the-variants.{Refused}
 use Rattle.direction.specs.Direction.{course, pairFault, direction, Directed}
-use Rattle.direction.specs.Parts.{PairAnswered}
+use Rattle.direction.specs.Parts.{LargeTree, PairAnswered}
 
 ------------------------------------------------------------------------
 -- Refusal 9, and none
@@ -36,49 +35,44 @@ module _ (P R : List ℕ) (rule : Rule) (u v : ℕ) where
 
   pub no-first : length P ≤ u → PairAnswered P R rule u v (Refused 9 0)
   unfolding pairFault
-  no-first h =
-      answer-by _ (refuse-yes _ 9 0 (either-first (leb (length P) u) _ (le-leb _ u h))) refl
+  no-first h = answer-by _ (refuse-yes _ 9 0 (either-first (leb (length P) u) _ (le-leb _ u h))) refl
 
   pub no-second : length P ≤ v → PairAnswered P R rule u v (Refused 9 0)
   unfolding pairFault
-  no-second h =
-      answer-by _ (refuse-yes _ 9 0 (either-second (leb (length P) u) _ (le-leb _ v h))) refl
+  no-second h = answer-by _ (refuse-yes _ 9 0 (either-second (leb (length P) u) _ (le-leb _ v h))) refl
 
   pub both-nodes : u < length P → v < length P → {r : Heading} → r ≡ course P R rule u v → PairAnswered P R rule u v r
   unfolding pairFault
   both-nodes lu lv = answer-by _ (refuse-no _ 9 0 (neither-is (lt-leb (length P) u lu) (lt-leb (length P) v lv)))
 
 ------------------------------------------------------------------------
--- After validation, which leaves X in the work list W
+-- After the tests, which leave X in the work list W
 
 module _ (P R : List ℕ) (rule : Rule) (u v : ℕ) {L : Limits} (is-large : L ≡ large) {W X : List ℕ} {r : Validity}
-    (given : Validated L P R true W X r) where
-  validated : Validated large P R true W X r
-  validated = subst (λ (l : Limits). Validated l P R true W X r) is-large given
+    (given : Prepared L P R true W X r) where
+  prepared : Prepared large P R true W X r
+  prepared = subst (λ (l : Limits). Prepared l P R true W X r) is-large given
 
-  pub table-refused : (k z : ℕ) → r ≡ Invalid k z → Directed large P R rule W X u v (Refused k z)
+  pub table-refused : {k z : ℕ} → r ≡ Invalid k z → Directed large P R rule W X u v (Refused k z)
   unfolding direction
-  table-refused k z e = record {
-    says = ap (λ f. refusedOr Refused f (course P R rule u v))
-        (sym (orElse-first _ (pairFault (length P) u v)
-        (validity-refused (tableFault large P R true (length W)) k z (sym (validated .answer) ∙ e))));
-    spared = validated .spared;
-    long = validated .kept .long;
+  table-refused e = record {
+    says = ap (λ f. refusedOr Refused f (course P R rule u v)) (sym (orElse-first _ _ (fault prepared e)));
+    spared = prepared .spared;
+    long = prepared .long;
   }
 
-  module _ (e : r ≡ Accepted) where
-    no-fault : tableFault large P R true (length W) ≡ none
-    no-fault = validity-accepted (tableFault large P R true (length W)) (sym (validated .answer) ∙ e)
+  module _ (ok : r ≡ Accepted) where
+    pub table-numbered : LargeTree P R X
+    table-numbered = record {
+      numbered = prepared .left ok;
+      few = accepting large P R true (length W) (no-fault prepared ok) .shape .few;
+    }
 
-    pub table-ready : Ready P R X × (length P ≤ large .nodes)
-    table-ready = (ready validated (omega arith) e, accepting large P R true (length W) no-fault .shape .few)
-
-    -- whatever is left in the work list then
-    pub table-accepted : (Y : List ℕ) {a : Heading} → length Y ≡ length W → PairAnswered P R rule u v a
-        → Directed large P R rule W Y u v a
+    pub table-accepted : {a : Heading} → PairAnswered P R rule u v a → Directed large P R rule W X u v a
     unfolding direction
-    table-accepted Y {a} same q = record {
-      says = q .answer ∙ ap (λ f. refusedOr Refused f (course P R rule u v)) (sym (orElse-second _ _ no-fault));
-      spared = λ f s. absurd (not-spared large P R true (length W) no-fault s);
-      long = same;
+    table-accepted q = record {
+      says = q .answer ∙ ap (λ f. refusedOr Refused f (course P R rule u v))
+          (sym (orElse-second _ _ (no-fault prepared ok)));
+      spared = prepared .spared;
+      long = prepared .long;
     }

@@ -1,31 +1,27 @@
--- Refusal 9; after it the numbers are written, and the heading is read off them.
+-- Refusal 9, of either node; after it the heading is read off the numbers.
+use mathlib.Core.Logic.{⊎-elim}
 use borrow.Author.Needs.{needs}
+use borrow.Author.Tests.{leb-true, leb-false}
 use Rattle.direction.proofs.Replies.{no-first, no-second, both-nodes}
 use Rattle.direction.proofs.accepted.Statement.{statement}
 use Rattle.direction.proofs.accepted.Tie as tie
 
-abbrev start : tie.Else1 → tie.Start
-start c = c .before .before .before .before
-
 returns : tie.Need-returns
 returns c =
     let args = c .before .before .before .before .args in
-    no-first (args .parent .now) (args .rank .now) (args .rule) (args .u) (args .v) (c .if1 .taken)
+    ⊎-elim
+    (λ first. no-first (args .parent .now) (args .rank .now) (args .rule) (args .u) (args .v) (first .taken))
+    (λ second. no-second (args .parent .now) (args .rank .now) (args .rule) (args .u) (args .v)
+    (leb-true _ _ (second .1 .taken)))
+    (c .if1 .came)
 
 returns-2 : tie.Need-returns-2
 returns-2 c =
-    let args = start (c .before) .args in
-    no-second (args .parent .now) (args .rank .now) (args .rule) (args .u) (args .v) (c .if2 .taken)
-
-returns-3 : tie.Need-returns-3
-returns-3 c =
-    let numbered = c .before .before .before .before in
-    let second = numbered .before .before in
+    let second = c .before in
     let first = second .before in
-    let args = start first .args in
+    let args = first .before .before .before .before .args in
     both-nodes (args .parent .now) (args .rank .now) (args .rule) (args .u) (args .v) (first .if1 .left)
-    (second .if2 .left) (c .heading-of .ensures)
+    (leb-false _ _ (second .if2 .left)) (c .heading-of .ensures)
 
 pub accepted-spec : {M : Type 1} → statement M
-accepted-spec = tie.close (tie.spec returns returns-2 (λ c κs. search needs) (λ c κs. search needs) (λ c. search needs)
-    returns-3)
+accepted-spec = tie.close (tie.spec returns (λ c κs. search needs) returns-2)
