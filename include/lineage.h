@@ -39,10 +39,10 @@ extern "C" {
 #endif
 
 /* The version of the library that this header belongs to. From 0.2 frames count grid cells; from 0.3 there is
- * lineage_post_numbers. */
-#define LINEAGE_VERSION "0.3.0"
+ * lineage_post_numbers; from 0.4 a lot has a direction to itself. */
+#define LINEAGE_VERSION "0.4.0"
 #define LINEAGE_VERSION_MAJOR 0
-#define LINEAGE_VERSION_MINOR 3
+#define LINEAGE_VERSION_MINOR 4
 #define LINEAGE_VERSION_PATCH 0
 
 /* The most lots of a table, the most that the check takes, and the largest x and y on a sheet. */
@@ -50,7 +50,8 @@ extern "C" {
 #define LINEAGE_CHECK_LOTS 4096
 #define LINEAGE_MAX_PLACE 2147483647
 
-/* Why a call refuses: the second number of a reply that is a refusal. */
+/* Why a call refuses: the second number of a reply that is a refusal.
+ * 13 is no longer given: up to version 0.3 it refused a direction from a lot to itself. */
 enum lineage_refusal {
     /* there are no lots */
     LINEAGE_NO_LOTS = 1,
@@ -76,8 +77,6 @@ enum lineage_refusal {
     LINEAGE_WOULD_PASS_MAX_PLACE = 11,
     /* the count is not below the lot's times */
     LINEAGE_COUNT_TOO_LARGE = 12,
-    /* both lots are the same */
-    LINEAGE_SAME_LOT = 13,
     /* there are more than 4,096 lots */
     LINEAGE_TOO_MANY_TO_CHECK = 14,
     /* the lot's place is above 2,147,483,647 */
@@ -109,8 +108,8 @@ bool lineage_shorten(bool balanced, const uint32_t *parent, size_t parent_length
                      uint32_t count, int64_t *reply, size_t reply_length);
 
 /* A direction along which every edge of the tree path from one lot to another rises, on each sheet of the table under
- * the rule. Reply: {1, d, e}: an edge of (across, up) rises when d * across + e * up is above 0.
- * Refusals 1 to 7, 9, 13. */
+ * the rule. Reply: {1, d, e}: an edge of (across, up) rises when d * across + e * up is above 0. From a lot to itself
+ * there is no edge, and the reply is {1, 1, 1}. Refusals 1 to 7, 9. */
 bool lineage_direction(bool balanced, const uint32_t *parent, size_t parent_length, const uint32_t *rank,
                        size_t rank_length, uint32_t *work, size_t work_length, uint32_t from, uint32_t to,
                        int64_t *reply, size_t reply_length);

@@ -65,7 +65,8 @@ def _grounds() -> dict[int, Ground]:
     return found
 
 
-GROUNDS = _grounds()  #: the grounds, by number
+#: The grounds, by number. 13 is no longer given: up to version 0.3 it refused a direction from a lot to itself.
+GROUNDS = _grounds()
 
 
 class Refused(Exception):
@@ -320,7 +321,11 @@ def check(tree: Tree, x: Iterable[int], y: Iterable[int]) -> Verdict:
 
 
 def direction(tree: Tree, rule: str, start: int, end: int) -> Direction:
-    """A direction along which every edge of the path from one lot to another rises, on every sheet under the rule."""
+    """A direction along which every edge of the path from one lot to another rises, on every sheet under the rule.
+
+    >>> direction(Tree([0, 0], [0, 0]), "steep", 1, 1)  # no edge
+    Direction(d=1, e=1)
+    """
     lists = tree._parents, tree._ranks, _zeros(4 * len(tree))
     _, d, e = _ask("direction", _balanced(rule), *lists, _number(start), _number(end))
     return Direction(d, e)

@@ -72,7 +72,8 @@ static void directions(void)
     expect("direction 2 to 3", replied(lineage_direction(false, TABLE, WORK, 2, 3, REPLY), 1, 7, -2));
     expect("direction 4 to 3", replied(lineage_direction(false, TABLE, WORK, 4, 3, REPLY), 1, 3, -2));
     expect("direction 0 to 4", replied(lineage_direction(false, TABLE, WORK, 0, 4, REPLY), 1, 1, 1));
-    expect("direction 2 to 2", refused(lineage_direction(false, TABLE, WORK, 2, 2, REPLY), LINEAGE_SAME_LOT, 0));
+    expect("direction 2 to 2", replied(lineage_direction(false, TABLE, WORK, 2, 2, REPLY), 1, 1, 1));
+    expect("direction 5 to 5", refused(lineage_direction(false, TABLE, WORK, 5, 5, REPLY), LINEAGE_NO_SUCH_LOT, 0));
 }
 
 /* Whether z is v or below it, by the parents alone. */

@@ -290,6 +290,7 @@ pub fn check(tree: &Tree, x: &[u32], y: &[u32]) -> Result<Verdict, Refused> {
 }
 
 /// A direction along which every edge of the tree path from one lot to another rises, on every sheet under the rule.
+/// From a lot to itself, where there is no edge, it is (1, 1).
 pub fn direction(tree: &Tree, rule: Rule, from: u32, to: u32) -> Result<Direction, Refused> {
     let (balanced, mut work) = (rule.balanced(), vec![0; 4 * tree.lots()]);
     let (_, d, e) = asked(Call::Direction, |reply| {

@@ -53,14 +53,15 @@ pub struct Ground {
     pub remedy: &'static str,
 }
 
-/// All grounds, by number from 1: the table of `include/refusals.txt`.
+/// All grounds, by number: the table of `include/refusals.txt`.
+/// 13 is no longer given: up to version 0.3 it refused a direction from a lot to itself.
 ///
 /// ```
 /// assert_eq!(lineage::GROUNDS[6].number, 7);
 /// assert_eq!(lineage::GROUNDS[6].words, "the lot's parents never lead to lot 0");
 /// assert_eq!(lineage::GROUNDS[6].remedy, "break the loop");
 /// ```
-pub static GROUNDS: [Ground; 17] = include!(concat!(env!("OUT_DIR"), "/grounds.rs"));
+pub static GROUNDS: [Ground; 16] = include!(concat!(env!("OUT_DIR"), "/grounds.rs"));
 
 /// A refusal: what was asked, document 01's number of the ground, and the lot (0 where the ground names none).
 #[derive(Clone, Copy, Debug, PartialEq, Eq)]

@@ -33,7 +33,16 @@ fn limits() {
 
 #[test]
 fn grounds_are_numbered_from_1() {
-    assert!(GROUNDS.iter().map(|ground| ground.number).eq(1..=17));
+    assert!(GROUNDS.iter().map(|ground| ground.number).eq((1..=17).filter(|&number| number != 13)));
+}
+
+/// Whoever meets the number 13 in an old reply finds what it was.
+#[test]
+fn the_number_that_was_a_ground() {
+    let said = "13 is no longer given: up to version 0.3 it refused a direction from a lot to itself.";
+    for path in ["include/refusals.txt", "include/lineage.h", "README.md", "rust/lineage/src/refusal.rs"] {
+        assert!(text(path).contains(said), "{path}");
+    }
 }
 
 /// The enum has each ground's number and name, and its words as the comment above.
