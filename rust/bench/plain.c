@@ -245,8 +245,6 @@ bool plain_direction(bool balanced, const uint32_t *parent, size_t parents, cons
     uint32_t n = (uint32_t)parents;
     if (from >= n || to >= n)
         return refused(reply, 9, 0);
-    if (from == to)
-        return refused(reply, 13, 0);
     number(parent, rank, n, work);
     const uint32_t *last = work, *first = work + 2 * (size_t)n;
 #define UNDER(a, z) (first[a] <= last[z] && last[z] <= last[a])

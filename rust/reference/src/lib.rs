@@ -343,14 +343,11 @@ pub fn direction(balanced: bool, parent: &[u32], rank: &[u32], work: usize, from
     if u >= tree.lots() || v >= tree.lots() {
         return refused((9, 0));
     }
-    if u == v {
-        return refused((13, 0));
-    }
     let (d, e) = heading(&tree, &tree.slopes(balanced), u, v);
     [1, d as i64, e as i64]
 }
 
-/// The direction from u to v, which differ.
+/// The direction from u to v; a lot is its own ancestor.
 pub fn heading(tree: &Tree, s: &[Slope], u: usize, v: usize) -> (i128, i128) {
     let (up, down) = (tree.way_up(u), tree.way_up(v));
     if down.contains(&u) {

@@ -44,9 +44,6 @@ fn holds(sheet: &Sheet, slopes: &[Place], added: &[i128]) {
     }
     for u in 0..n {
         for v in 0..n {
-            if u == v {
-                continue;
-            }
             let along = sheet.direction(u as u32, v as u32).unwrap();
             for step in tree.path(u as u32, v as u32).expect("two lots").windows(2) {
                 let (a, b) = (place(step[0] as usize), place(step[1] as usize));

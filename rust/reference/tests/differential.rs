@@ -233,7 +233,7 @@ fn lists_of_calls() {
 #[test]
 fn direction() {
     let mut random = Random::from_environment("direction");
-    let mut tally = Tally::default();
+    let (mut tally, mut to_itself) = (Tally::default(), 0);
     for i in 0..calls() {
         let (parent, mut rank) = random.any_table(100);
         lend(&mut random, &mut rank);
@@ -246,9 +246,12 @@ fn direction() {
         let said = format!("call {i}: direction({balanced}, {parent:?}, {rank:?}, {from}, {to})");
         lent.compare(&said, called, right, spares_work);
         tally.note(right);
+        to_itself += usize::from(from == to && right[0] == 1);
     }
     tally.print("direction");
-    tally.has_all(&[1, 3, 4, 5, 6, 7, 9, 13]);
+    tally.has_all(&[1, 3, 4, 5, 6, 7, 9]);
+    println!("of the answers {to_itself} go from a lot to itself");
+    assert!(to_itself > 0 || calls() < 10_000, "never from a lot to itself");
 }
 
 #[test]
