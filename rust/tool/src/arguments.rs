@@ -99,7 +99,8 @@ pub static COMMANDS: [Command; 9] = [
         name: "direction",
         words: &["TREE", "FROM", "TO"],
         summary: "a direction along which the path between two lots rises",
-        about: "Prints 'D E'; a line that goes (across, up) rises along it when D * across + E * up is above 0.",
+        about: "Prints 'D E'; a line that goes (across, up) rises along it when D * across + E * up is above 0. From a \
+                lot to itself no line is walked, and it is '1 1'; up to version 0.3 that was refused, with 13.",
         options: &[&RULE],
     },
     Command {

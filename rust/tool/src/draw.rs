@@ -175,7 +175,7 @@ fn lines(svg: &mut String, plan: &Plan) {
     svg.push_str("</g>\n");
 }
 
-/// A path in its colour, and an arrow along its direction in the page's scales.
+/// A path, what is said of it, and an arrow along its direction in the page's scales.
 fn highlight(
     svg: &mut String,
     sheet: &Sheet,
@@ -184,7 +184,25 @@ fn highlight(
     number: usize,
     (u, v, along): (u32, u32, Direction),
 ) {
-    let (colour, (across, down)) = (COLOURS[number], plan.view.digits);
+    let colour = COLOURS[number];
+    let told = if u == v {
+        ring(svg, plan, u, colour);
+        format!("the path from {u} to itself has no line; its direction is {along}")
+    } else {
+        trace(svg, sheet, plan, (u, v), colour);
+        format!("the path from {u} to {v} rises along {along}")
+    };
+    let at = ask.caption_row() + 1 + number;
+    row(svg, &ask.page, at, &told, (13.0, colour));
+    // rising means a positive product with (d, e): on a page with two scales that is a direction divided by them
+    let (dx, dy) = (f64::from(along.d) / plan.view.scale.0, -f64::from(along.e) / plan.view.scale.1);
+    let centre = Point { x: ask.page.width - MARGIN / 2.0, y: 20.0 + ROW * at as f64 };
+    arrow(svg, centre, (16.0 * dx / dx.hypot(dy), 16.0 * dy / dx.hypot(dy)), colour);
+}
+
+/// The lines of a path, in its colour.
+fn trace(svg: &mut String, sheet: &Sheet, plan: &Plan, (u, v): (u32, u32), colour: &str) {
+    let (across, down) = plan.view.digits;
     let path = sheet.tree().path(u, v).unwrap_or_default();
     let drawn = path.iter().filter_map(|&z| plan.dot_of[z as usize]).map(|dot| plan.dots[dot]);
     let points: Vec<String> = drawn.map(|p| format!("{:.across$},{:.down$}", p.x, p.y)).collect();
@@ -196,12 +214,19 @@ fn highlight(
         points.join(" ")
     )
     .unwrap();
-    let at = ask.caption_row() + 1 + number;
-    row(svg, &ask.page, at, &format!("the path from {u} to {v} rises along {along}"), (13.0, colour));
-    // rising means a positive product with (d, e): on a page with two scales that is a direction divided by them
-    let (dx, dy) = (f64::from(along.d) / plan.view.scale.0, -f64::from(along.e) / plan.view.scale.1);
-    let centre = Point { x: ask.page.width - MARGIN / 2.0, y: 20.0 + ROW * at as f64 };
-    arrow(svg, centre, (16.0 * dx / dx.hypot(dy), 16.0 * dy / dx.hypot(dy)), colour);
+}
+
+/// The lot that a path does not leave: its dot in a ring, less wide than labels keep away from dots.
+fn ring(svg: &mut String, plan: &Plan, lot: u32, colour: &str) {
+    let Some(dot) = plan.dot_of[lot as usize] else { return };
+    let ((across, down), Point { x, y }) = (plan.view.digits, plan.dots[dot]);
+    let radius = plan.radii[dot] + 0.75;
+    writeln!(
+        svg,
+        "<circle id=\"path-{lot}-{lot}\" cx=\"{x:.across$}\" cy=\"{y:.down$}\" r=\"{radius:.2}\" fill=\"none\" \
+         stroke=\"{colour}\" stroke-width=\"1.5\"/>"
+    )
+    .unwrap();
 }
 
 fn arrow(svg: &mut String, centre: Point, (dx, dy): (f64, f64), colour: &str) {

@@ -50,7 +50,8 @@ fn saved_sheets_are_taken_up_again() {
 fn directions_and_checks() {
     let tree = five("directions.tree");
     assert_eq!(out(&["direction", &tree, "3", "2"]), "-7 2\n");
-    assert_eq!(fails(&["direction", &tree, "3", "3"]).0, 1);
+    assert_eq!(out(&["direction", &tree, "3", "3"]), "1 1\n");
+    assert_eq!(fails(&["direction", &tree, "5", "5"]).0, 1);
     assert!(fails(&["direction", &tree, "3", "x"]).1.contains("TO: 'x' is not a whole number"));
     assert_eq!(out(&["check", &tree, "--rule", "balanced"]), "Monotone\n");
     let square = file("square.txt", b"0 0\n0 1\n5 5\n0 0\n1 1\n");
@@ -140,8 +141,8 @@ fn drawings() {
     assert_eq!(svg.matches("<line").count(), 4);
     assert_eq!(svg.matches("<circle").count(), 5);
     assert!(svg.contains("rises along (-7, 2)"));
-    let (status, message) = fails(&["draw", &tree, "--path", "3:3"]);
-    assert!(status == 1 && message.contains("lots 3 and 3") && message.contains("(13)"), "{message}");
+    let (status, message) = fails(&["draw", &tree, "--path", "5:5"]);
+    assert!(status == 1 && message.contains("lots 5 and 5") && message.contains("(9)"), "{message}");
 }
 
 #[test]

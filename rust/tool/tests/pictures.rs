@@ -295,6 +295,23 @@ fn a_part_stands_as_on_the_sheet() {
 }
 
 #[test]
+fn a_path_to_the_same_lot_is_a_ring() {
+    let five = common::five("picture-ring.tree");
+    for (file, lot) in [(five.as_str(), 3), (five.as_str(), 0), (&tree("picture-alone.tree", &[0]), 0)] {
+        let svg = out(&["draw", file, "--path", &format!("{lot}:{lot}")]);
+        let (picture, id) = (read(&svg), format!("<circle id=\"path-{lot}-{lot}\""));
+        let ring = svg.lines().find(|line| line.starts_with(&id)).expect("a ring");
+        let (dot, radius) = (&picture.dots[&lot], number(ring, "r"));
+        assert_eq!((number(ring, "cx"), number(ring, "cy")), dot.at);
+        let outer = radius + number(ring, "stroke-width") / 2.0;
+        assert!(radius > dot.r && outer < picture.labels[&lot].distance(dot.at), "{svg}");
+        let told = format!("the path from {lot} to itself has no line; its direction is (1, 1)");
+        assert!(picture.rows.contains(&told) && !svg.contains("<polyline") && !svg.contains("NaN"), "{svg}");
+        readable("ring", &picture, &[lot]);
+    }
+}
+
+#[test]
 fn titles_names_and_pages() {
     let outline = file("picture-names.txt", b"quay & <co>\n  \"Anna\"\n    Bert\n");
     let svg = out(&["draw", &outline, "--title", "Season <1> & \"2\"", "--page", "A4"]);
