@@ -1,15 +1,13 @@
 -- From refusals and headings to the call's answer.
-use mathlib.Core.Bool.{true}
+use mathlib.Core.Bool.{true, false, _||_}
 use mathlib.Core.List.{List}
 use mathlib.Core.Option.{Option}
 use mathlib.Core.Path.{_≡_, refl, sym, ap, subst, _∙_}
-use Prim.Native.Nat.{ℕ, _≤_, _<_}
+use Prim.Native.Nat.{ℕ}
 use lib.Dec.{leb}
 use lib.ListN.{length}
-use borrow.Author.Tests.{le-leb, lt-leb}
 use Rattle.laws.specs.Refusals.{orElse-first, orElse-second, refuse-yes, refuse-no}
 use Rattle.laws.specs.Search.{Refusal, refusedOr}
-use Rattle.laws.specs.Tests.{either-first, either-second, neither-is}
 use Rattle.table.specs.declared.Limits.{Limits}
 use Rattle.table.specs.declared.Validity.{Validity}
 use Rattle.table.specs.declared.Validity.the-variants.{Accepted, Refused as Invalid}
@@ -33,17 +31,14 @@ module _ (P R : List ℕ) (rule : Rule) (u v : ℕ) where
         (sym e);
   }
 
-  pub no-first : length P ≤ u → PairAnswered P R rule u v (Refused 9 0)
+  pub no-node : leb (length P) u || leb (length P) v ≡ true → PairAnswered P R rule u v (Refused 9 0)
   unfolding pairFault
-  no-first h = answer-by _ (refuse-yes _ 9 0 (either-first (leb (length P) u) _ (le-leb _ u h))) refl
+  no-node h = answer-by _ (refuse-yes _ 9 0 h) refl
 
-  pub no-second : length P ≤ v → PairAnswered P R rule u v (Refused 9 0)
+  pub both-nodes : leb (length P) u || leb (length P) v ≡ false → {r : Heading} → r ≡ course P R rule u v
+      → PairAnswered P R rule u v r
   unfolding pairFault
-  no-second h = answer-by _ (refuse-yes _ 9 0 (either-second (leb (length P) u) _ (le-leb _ v h))) refl
-
-  pub both-nodes : u < length P → v < length P → {r : Heading} → r ≡ course P R rule u v → PairAnswered P R rule u v r
-  unfolding pairFault
-  both-nodes lu lv = answer-by _ (refuse-no _ 9 0 (neither-is (lt-leb (length P) u lu) (lt-leb (length P) v lv)))
+  both-nodes h = answer-by _ (refuse-no _ 9 0 h)
 
 ------------------------------------------------------------------------
 -- After the tests, which leave X in the work list W
