@@ -15,12 +15,16 @@
 --   drawingFault L ..         == refusals 1 to 8 at the limits L
 --   redrawn f s t             == the outcome of a call on s with refusal f, or else the drawing t
 --   layout L ..               == the call: what it answers, and the drawing that it leaves
---   OnDrawing L .. o          == the contract of a call on a drawing whose definition is o
+--   OnDrawing L .. o          == the contract of a call on a drawing whose outcome is o
+--   drawing times x y         == the drawing in three lent lists, at entry and at exit
+--   Does L .. call r          == that contract of lent lists, for a call whose definition is `call`
 use mathlib.Core.Bool.{Bool, cond, not, _&&_}
 use mathlib.Core.List.{List, [], _∷_}
 use mathlib.Core.Option.{Option}
 use mathlib.Core.Path.{_≡_}
 use Prim.Native.Nat.{ℕ, zero, suc, _+_, _*_, max}
+use denote.Ref.{RefT, now}
+use denote.Triple.Both.{Both}
 use lib.Dec.{leb, eqb}
 use lib.ListN.{length, getD, replicate}
 use Rattle.laws.specs.Search.{tabulate, Refusal, refuseLeast, _orElse_, Outcome, settle}
@@ -104,3 +108,20 @@ abbrev pub OnDrawing : Limits → List ℕ → List ℕ → Drawing → List ℕ
     → Outcome Framed Drawing → Type 0
 OnDrawing L P R s W t X r o =
     Called (shapeFault L P R (lengthsFit P s) (length W)) W X (record { answer = r; left = t } ≡ o)
+
+-- a list lent to a call, and the drawing that three of them hold: each at entry and at exit
+abbrev pub Lent : Type 0
+Lent = Both (RefT (List ℕ)) (RefT (List ℕ))
+
+abbrev pub drawing : Lent → Lent → Lent → Both Drawing Drawing
+drawing times x y = record {
+  entry = lent (now (times .entry)) (now (x .entry)) (now (y .entry));
+  exit = lent (now (times .exit)) (now (x .exit)) (now (y .exit));
+}
+
+-- the answer r and the lists at exit are what `call` says of the table, the drawing s and the length of the work list
+abbrev pub Does : Limits → Lent → Lent → Both Drawing Drawing → Lent
+    → (List ℕ → List ℕ → Drawing → ℕ → Outcome Framed Drawing) → Framed → Type 0
+Does L parent rank s work call r =
+    OnDrawing L (now (parent .entry)) (now (rank .entry)) (s .entry) (now (work .entry)) (s .exit) (now (work .exit)) r
+    (call (now (parent .entry)) (now (rank .entry)) (s .entry) (length (now (work .entry))))

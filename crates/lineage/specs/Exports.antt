@@ -6,6 +6,7 @@
 --   ruleOf balanced          == the rule that a bool stands for
 --   countedReply a, ..       == the three numbers of an answer: 0, number, node where it refuses
 --   Short a                  == the number of bytes that the writer answers fits 32 bits
+--   Unchanged s work         == what lent lists hold, and the work list, are as they were
 --   Answered C reply q       == q is the reply of an answer that keeps the contract C
 --   Exported C reply K q s b == b says whether the reply q at entry is three long: then s at exit is the reply of an
 --                               answer that keeps C; otherwise the reply is as it was, and K holds: so is all else
@@ -13,6 +14,8 @@ use mathlib.Core.Bool.{Bool, true, false}
 use mathlib.Core.List.{List, [], _∷_}
 use mathlib.Core.Path.{_≡_}
 use Prim.Native.Nat.{ℕ, _^_, _<_}
+use denote.Ref.{now}
+use denote.Triple.Both.{Both}
 use lib.IntN.{ℤ, pos}
 use lib.ListN.{length}
 use Rattle.table.specs.declared.Counted.{Counted}
@@ -21,6 +24,7 @@ use Rattle.slopes.specs.declared.Rule.{Rule}
 use Rattle.slopes.specs.declared.Rule.the-variants.{Steep, Balanced}
 use Rattle.drawing.specs.declared.Framed.{Framed}
 use Rattle.drawing.specs.declared.Framed.the-variants as framed
+use Rattle.drawing.specs.Drawing.{Lent}
 use Rattle.direction.specs.declared.Heading.{Heading}
 use Rattle.direction.specs.declared.Heading.the-variants as heading
 use Rattle.monotone.specs.declared.Verdict.{Verdict}
@@ -68,6 +72,10 @@ Short (saved.Unsaved number node) = Unit {0}
 
 ------------------------------------------------------------------------
 -- The contracts
+
+-- what lent lists hold, s, and the work list are at exit what they were at entry
+abbrev pub Unchanged : {A : Type 0} → Both A A → Lent → Type 0
+Unchanged s work = (s .exit ≡ s .entry) × (now (work .exit) ≡ now (work .entry))
 
 pub record Answered {A : Type 0} (Contract : A → Type 0) (reply : A → List ℤ) (q : List ℤ) : Type 0 where
   pub answer : A

@@ -13,13 +13,13 @@ ghost use lib.IntN.{pos};
 ghost use lib.ListN.{length};
 ghost use Rattle.table.specs.Table.{large, checked};
 ghost use Rattle.numbers.specs.PostNumbers.{spans, Spanned};
-ghost use Rattle.drawing.specs.Drawing.{lent, layout, OnDrawing};
+ghost use Rattle.drawing.specs.Drawing.{layout, drawing, Does};
 ghost use Rattle.stretching.specs.Stretching.{lengthen, shorten};
 ghost use Rattle.direction.specs.Direction.{Directed};
 ghost use Rattle.monotone.specs.Monotone.{Checked};
 ghost use Rattle.treefile.specs.TreeFile.{statedOrZero, Read, Wrote};
 ghost use Rattle.lineage.specs.Exports.{ruleOf, three, countedReply, framedReply, headingReply, verdictReply};
-ghost use Rattle.lineage.specs.Exports.{savedReply, Short, Exported};
+ghost use Rattle.lineage.specs.Exports.{savedReply, Short, Unchanged, Exported};
 
 // The rule that a bool stands for.
 fn rule_of(balanced: bool) -> Rule
@@ -149,15 +149,8 @@ pub extern "C" fn lineage_layout(
     reply: &mut [i64],
 ) -> bool
     ensures { λ b. ⌜ Exported
-        (λ r. OnDrawing large (now (parent .entry)) (now (rank .entry))
-        (lent (now (times .entry)) (now (x .entry)) (now (y .entry))) (now (work .entry))
-        (lent (now (times .exit)) (now (x .exit)) (now (y .exit))) (now (work .exit)) r
-        (layout large (now (parent .entry)) (now (rank .entry)) (ruleOf balanced)
-        (lent (now (times .entry)) (now (x .entry)) (now (y .entry))) (length (now (work .entry)))))
-        framedReply
-        ((lent (now (times .exit)) (now (x .exit)) (now (y .exit))
-        ≡ lent (now (times .entry)) (now (x .entry)) (now (y .entry)))
-        × (now (work .exit) ≡ now (work .entry)))
+        (Does large parent rank (drawing times x y) work (λ P R s m. layout large P R (ruleOf balanced) s m))
+        framedReply (Unchanged (drawing times x y) work)
         (now (reply .entry)) (now (reply .exit)) b ⌝ }
 {
     if reply.len() != 3 {
@@ -183,15 +176,9 @@ pub extern "C" fn lineage_lengthen(
     reply: &mut [i64],
 ) -> bool
     ensures { λ b. ⌜ Exported
-        (λ r. OnDrawing large (now (parent .entry)) (now (rank .entry))
-        (lent (now (times .entry)) (now (x .entry)) (now (y .entry))) (now (work .entry))
-        (lent (now (times .exit)) (now (x .exit)) (now (y .exit))) (now (work .exit)) r
-        (lengthen large (now (parent .entry)) (now (rank .entry)) (ruleOf balanced)
-        (lent (now (times .entry)) (now (x .entry)) (now (y .entry))) (length (now (work .entry))) lot count))
-        framedReply
-        ((lent (now (times .exit)) (now (x .exit)) (now (y .exit))
-        ≡ lent (now (times .entry)) (now (x .entry)) (now (y .entry)))
-        × (now (work .exit) ≡ now (work .entry)))
+        (Does large parent rank (drawing times x y) work
+        (λ P R s m. lengthen large P R (ruleOf balanced) s m lot count))
+        framedReply (Unchanged (drawing times x y) work)
         (now (reply .entry)) (now (reply .exit)) b ⌝ }
 {
     if reply.len() != 3 {
@@ -227,15 +214,9 @@ pub extern "C" fn lineage_shorten(
     reply: &mut [i64],
 ) -> bool
     ensures { λ b. ⌜ Exported
-        (λ r. OnDrawing large (now (parent .entry)) (now (rank .entry))
-        (lent (now (times .entry)) (now (x .entry)) (now (y .entry))) (now (work .entry))
-        (lent (now (times .exit)) (now (x .exit)) (now (y .exit))) (now (work .exit)) r
-        (shorten large (now (parent .entry)) (now (rank .entry)) (ruleOf balanced)
-        (lent (now (times .entry)) (now (x .entry)) (now (y .entry))) (length (now (work .entry))) lot count))
-        framedReply
-        ((lent (now (times .exit)) (now (x .exit)) (now (y .exit))
-        ≡ lent (now (times .entry)) (now (x .entry)) (now (y .entry)))
-        × (now (work .exit) ≡ now (work .entry)))
+        (Does large parent rank (drawing times x y) work
+        (λ P R s m. shorten large P R (ruleOf balanced) s m lot count))
+        framedReply (Unchanged (drawing times x y) work)
         (now (reply .entry)) (now (reply .exit)) b ⌝ }
 {
     if reply.len() != 3 {

@@ -5,7 +5,7 @@ use slopes::Rule;
 ghost use mathlib.Core.Path.{_≡_};
 ghost use lib.ListN.{length};
 ghost use Rattle.table.specs.Table.{large};
-ghost use Rattle.drawing.specs.Drawing.{lent};
+ghost use Rattle.drawing.specs.Drawing.{drawing};
 ghost use Rattle.lineage.specs.Claim.{make, run};
 ghost use Rattle.lineage.specs.Replay.{callOf, callsTo, Replayed};
 
@@ -22,8 +22,8 @@ fn make_call(
     lot: u32,
     count: u32,
 ) -> Framed
-    ensures { λ _. ⌜ lent (now (times .exit)) (now (x .exit)) (now (y .exit)) ≡ make large (now (parent .entry))
-        (now (rank .entry)) rule (lent (now (times .entry)) (now (x .entry)) (now (y .entry)))
+    ensures { λ _. ⌜ drawing times x y .exit
+        ≡ make large (now (parent .entry)) (now (rank .entry)) rule (drawing times x y .entry)
         (callOf kind lot count (length (now (work .entry)))) .left ⌝ }
 {
     if kind == 0 {
@@ -46,8 +46,8 @@ fn make_calls(
     counts: &[u32],
 )
     requires { ⌜ (length (now lots) ≡ length (now kinds)) × (length (now counts) ≡ length (now kinds)) ⌝ }
-    ensures { λ _. ⌜ lent (now (times .exit)) (now (x .exit)) (now (y .exit)) ≡ run large (now (parent .entry))
-        (now (rank .entry)) rule (lent (now (times .entry)) (now (x .entry)) (now (y .entry)))
+    ensures { λ _. ⌜ drawing times x y .exit
+        ≡ run large (now (parent .entry)) (now (rank .entry)) rule (drawing times x y .entry)
         (callsTo (now (kinds .entry)) (now (lots .entry)) (now (counts .entry)) (length (now (work .entry)))
         (length (now (kinds .entry)))) ⌝ }
 {
@@ -77,10 +77,9 @@ pub fn replay(
     counts: &[u32],
 ) -> Framed
     requires { ⌜ (length (now lots) ≡ length (now kinds)) × (length (now counts) ≡ length (now kinds)) ⌝ }
-    ensures { λ r. ⌜ Replayed large (now (parent .entry)) (now (rank .entry)) rule
-        (lent (now (times .entry)) (now (x .entry)) (now (y .entry))) (length (now (work .entry)))
-        (now (kinds .entry)) (now (lots .entry)) (now (counts .entry))
-        (lent (now (times .exit)) (now (x .exit)) (now (y .exit))) r ⌝ }
+    ensures { λ r. ⌜ Replayed large (now (parent .entry)) (now (rank .entry)) rule (drawing times x y .entry)
+        (length (now (work .entry))) (now (kinds .entry)) (now (lots .entry)) (now (counts .entry))
+        (drawing times x y .exit) r ⌝ }
 {
     match drawing::layout(rule, parent, rank, times, x, y, work) {
         Framed::Refused(number, lot) => Framed::Refused(number, lot),

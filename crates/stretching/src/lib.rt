@@ -23,7 +23,7 @@ ghost use Rattle.laws.specs.Search.{least};
 ghost use Rattle.table.specs.Numbering.{NumberedTree};
 ghost use Rattle.table.specs.Table.{large};
 ghost use Rattle.slopes.specs.Slopes.{edge};
-ghost use Rattle.drawing.specs.Drawing.{lent, nodeFits, OnDrawing};
+ghost use Rattle.drawing.specs.Drawing.{lent, nodeFits, drawing, Does};
 ghost use Rattle.drawing.specs.DrawingLaws.{Drawn};
 ghost use Rattle.drawing.specs.Parts.{FramesFit, Sized};
 ghost use Rattle.stretching.specs.Stretching.{moved, stretched, beyond, lengthen, shorten};
@@ -46,7 +46,7 @@ fn placed(limit: usize, places: &[u32], p: usize, v: usize, step: usize) -> bool
 // Whether the root has times 1 and place (0, 0).
 fn root_fits(times: &[u32], x: &[u32], y: &[u32]) -> bool
     requires { ⌜ (0 < length (now times)) × (0 < length (now x)) × (0 < length (now y)) ⌝ }
-    ensures { λ r. ⌜ r ≡ rootFits (lent (now (times .entry)) (now (x .entry)) (now (y .entry))) ⌝ }
+    ensures { λ r. ⌜ r ≡ rootFits (drawing times x y .entry) ⌝ }
 {
     if get(times, 0) != 1 {
         return false;
@@ -88,8 +88,7 @@ fn node_fits(
 ) -> bool
     requires { ⌜ Sized (now parent) (now rank) (lent (now times) (now x) (now y)) (now work)
         × (0 < v) × (v < length (now parent)) × (slope ≡ edge (now parent) (now rank) rule v) ⌝ }
-    ensures { λ r. ⌜ r ≡ nodeFits limit (now (parent .entry)) (now (rank .entry)) rule
-        (lent (now (times .entry)) (now (x .entry)) (now (y .entry))) v ⌝ }
+    ensures { λ r. ⌜ r ≡ nodeFits limit (now (parent .entry)) (now (rank .entry)) rule (drawing times x y .entry) v ⌝ }
 {
     let t = get(times, v);
     if t < 1 {
@@ -117,7 +116,7 @@ fn misfit_by_node(
     requires { ⌜ Sized (now parent) (now rank) (lent (now times) (now x) (now y)) (now work)
         × (rootFits (lent (now times) (now x) (now y)) ≡ true) ⌝ }
     ensures { λ r. ⌜ r ≡ least (misfit limit (now (parent .entry)) (now (rank .entry)) rule
-        (lent (now (times .entry)) (now (x .entry)) (now (y .entry)))) (length (now (parent .entry))) ⌝ }
+        (drawing times x y .entry)) (length (now (parent .entry))) ⌝ }
 {
     let n = parent.len();
     let mut v = 1;
@@ -145,8 +144,7 @@ fn all_fit(
 ) -> bool
     requires { ⌜ Sized (now parent) (now rank) (lent (now times) (now x) (now y)) (now work)
         × (rootFits (lent (now times) (now x) (now y)) ≡ true) ⌝ }
-    ensures { λ r. ⌜ AllFit limit (now (parent .entry)) (now (rank .entry)) rule
-        (lent (now (times .entry)) (now (x .entry)) (now (y .entry))) r ⌝ }
+    ensures { λ r. ⌜ AllFit limit (now (parent .entry)) (now (rank .entry)) rule (drawing times x y .entry) r ⌝ }
 {
     let n = parent.len();
     let mut here = bordered_at(rule, n, n - 1);
@@ -180,7 +178,7 @@ fn first_misfit(
 ) -> usize
     requires { ⌜ Sized (now parent) (now rank) (lent (now times) (now x) (now y)) (now work) ⌝ }
     ensures { λ r. ⌜ r ≡ least (misfit limit (now (parent .entry)) (now (rank .entry)) rule
-        (lent (now (times .entry)) (now (x .entry)) (now (y .entry)))) (length (now (parent .entry))) ⌝ }
+        (drawing times x y .entry)) (length (now (parent .entry))) ⌝ }
 {
     let root = root_fits(times, x, y);
     if !root {
@@ -210,7 +208,7 @@ pub fn inspect(
     work: &mut [u32],
 ) -> Validity
     ensures { λ r. ⌜ Inspecting limits (now (parent .entry)) (now (rank .entry)) rule
-        (lent (now (times .entry)) (now (x .entry)) (now (y .entry))) (now (work .entry)) (now (work .exit)) r ⌝ }
+        (drawing times x y .entry) (now (work .entry)) (now (work .exit)) r ⌝ }
 {
     let n = parent.len();
     let place = limits.place as usize;
@@ -240,7 +238,7 @@ fn examine(
     lot: u32,
 ) -> Validity
     ensures { λ r. ⌜ Examining limits (now (parent .entry)) (now (rank .entry)) rule
-        (lent (now (times .entry)) (now (x .entry)) (now (y .entry))) (now (work .entry)) lot (now (work .exit)) r ⌝ }
+        (drawing times x y .entry) (now (work .entry)) lot (now (work .exit)) r ⌝ }
 {
     let n = parent.len();
     let valid = inspect(limits, rule, parent, rank, times, x, y, work);
@@ -327,8 +325,7 @@ fn too_far(
         × Drawn limit (now parent) (now rank) rule (lent (now times) (now x) (now y))
         × (0 < v) × (v < length (now parent)) ⌝ }
     ensures { λ r. ⌜ r ≡ beyond limit (length (now (parent .entry)))
-        (longer (now (parent .entry)) (now (rank .entry)) rule
-        (lent (now (times .entry)) (now (x .entry)) (now (y .entry))) v count) ⌝ }
+        (longer (now (parent .entry)) (now (rank .entry)) rule (drawing times x y .entry) v count) ⌝ }
 {
     let c = count as usize;
     let slope = edge_slope(rule, parent, rank, work, v);
@@ -354,9 +351,8 @@ fn stretch(
 )
     requires { ⌜ Stretchable (now parent) (now rank) rule (lent (now times) (now x) (now y)) (now work)
         v count longer ⌝ }
-    ensures { λ _. ⌜ lent (now (times .exit)) (now (x .exit)) (now (y .exit))
-        ≡ stretched (by longer) (now (parent .entry)) (now (rank .entry)) rule
-        (lent (now (times .entry)) (now (x .entry)) (now (y .entry))) v count ⌝ }
+    ensures { λ _. ⌜ drawing times x y .exit
+        ≡ stretched (by longer) (now (parent .entry)) (now (rank .entry)) rule (drawing times x y .entry) v count ⌝ }
 {
     let c = count as usize;
     let slope = edge_slope(rule, parent, rank, work, v);
@@ -380,11 +376,8 @@ pub fn lengthen_within(
     count: u32,
 ) -> Framed
     requires { ⌜ FramesFit limits ⌝ }
-    ensures { λ r. ⌜ OnDrawing limits (now (parent .entry)) (now (rank .entry))
-        (lent (now (times .entry)) (now (x .entry)) (now (y .entry))) (now (work .entry))
-        (lent (now (times .exit)) (now (x .exit)) (now (y .exit))) (now (work .exit)) r
-        (lengthen limits (now (parent .entry)) (now (rank .entry)) rule
-        (lent (now (times .entry)) (now (x .entry)) (now (y .entry))) (length (now (work .entry))) lot count) ⌝ }
+    ensures { λ r. ⌜ Does limits parent rank (drawing times x y) work
+        (λ P R s m. lengthen limits P R rule s m lot count) r ⌝ }
 {
     let place = limits.place as usize;
     let verdict = examine(limits, rule, parent, rank, times, x, y, work, lot);
@@ -416,11 +409,8 @@ pub fn shorten_within(
     count: u32,
 ) -> Framed
     requires { ⌜ FramesFit limits ⌝ }
-    ensures { λ r. ⌜ OnDrawing limits (now (parent .entry)) (now (rank .entry))
-        (lent (now (times .entry)) (now (x .entry)) (now (y .entry))) (now (work .entry))
-        (lent (now (times .exit)) (now (x .exit)) (now (y .exit))) (now (work .exit)) r
-        (shorten limits (now (parent .entry)) (now (rank .entry)) rule
-        (lent (now (times .entry)) (now (x .entry)) (now (y .entry))) (length (now (work .entry))) lot count) ⌝ }
+    ensures { λ r. ⌜ Does limits parent rank (drawing times x y) work
+        (λ P R s m. shorten limits P R rule s m lot count) r ⌝ }
 {
     let verdict = examine(limits, rule, parent, rank, times, x, y, work, lot);
     match verdict {
@@ -449,11 +439,8 @@ pub fn lengthen(
     lot: u32,
     count: u32,
 ) -> Framed
-    ensures { λ r. ⌜ OnDrawing large (now (parent .entry)) (now (rank .entry))
-        (lent (now (times .entry)) (now (x .entry)) (now (y .entry))) (now (work .entry))
-        (lent (now (times .exit)) (now (x .exit)) (now (y .exit))) (now (work .exit)) r
-        (lengthen large (now (parent .entry)) (now (rank .entry)) rule
-        (lent (now (times .entry)) (now (x .entry)) (now (y .entry))) (length (now (work .entry))) lot count) ⌝ }
+    ensures { λ r. ⌜ Does large parent rank (drawing times x y) work
+        (λ P R s m. lengthen large P R rule s m lot count) r ⌝ }
 {
     let limits = large_limits();
     lengthen_within(limits, rule, parent, rank, times, x, y, work, lot, count)
@@ -472,11 +459,8 @@ pub fn shorten(
     lot: u32,
     count: u32,
 ) -> Framed
-    ensures { λ r. ⌜ OnDrawing large (now (parent .entry)) (now (rank .entry))
-        (lent (now (times .entry)) (now (x .entry)) (now (y .entry))) (now (work .entry))
-        (lent (now (times .exit)) (now (x .exit)) (now (y .exit))) (now (work .exit)) r
-        (shorten large (now (parent .entry)) (now (rank .entry)) rule
-        (lent (now (times .entry)) (now (x .entry)) (now (y .entry))) (length (now (work .entry))) lot count) ⌝ }
+    ensures { λ r. ⌜ Does large parent rank (drawing times x y) work
+        (λ P R s m. shorten large P R rule s m lot count) r ⌝ }
 {
     let limits = large_limits();
     shorten_within(limits, rule, parent, rank, times, x, y, work, lot, count)
