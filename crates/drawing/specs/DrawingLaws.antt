@@ -1,7 +1,7 @@
 -- What the test of refusal 8 says of a drawing, and what the frame is.
 --
 --   Coordinate limit .. part X    == X has a drawing's places in the coordinate that adds up `part`, within the limit
---   Drawn limit P R rule s        == s is a drawing of the table under the rule (document 01: a sheet)
+--   Drawn limit P R rule s        == s is a drawing of the table under the rule
 --   fits-drawn, drawn-fits        == it is one exactly when every node fits
 --   drawn-times                   == times are within the limit too
 --   largest-above, largest-found  == the largest of a list is above all, and one of them or 0
@@ -17,15 +17,14 @@ use lib.Dec.{leb, eqb}
 use lib.ListN.{length, getD}
 use borrow.Author.Tests.{eqb-true, eq-eqb, ne-eqb, leb-true, le-leb}
 use Rattle.laws.specs.Tests.{by-eq, by-lt, both, both-is}
-use Rattle.table.specs.Acceptance.{two-long}
 use Rattle.table.specs.Numbering.{numbering}
-use Rattle.table.specs.Table.{parent, postNumber, allLong}
+use Rattle.table.specs.Table.{parent, postNumber}
 use Rattle.table.specs.TableLaws.{Tree}
 use Rattle.slopes.specs.declared.Rule.{Rule}
 use Rattle.slopes.specs.declared.Slope.{Slope}
 use Rattle.slopes.specs.SlopeLaws.{slope-positive}
 use Rattle.slopes.specs.Slopes.{acrossOf, upOf, slopeAt, edge}
-use Rattle.drawing.specs.Drawing.{Drawing, lengthsFit, largest, placed, nodeFits}
+use Rattle.drawing.specs.Drawing.{Drawing, largest, placed, nodeFits}
 use Rattle.drawing.specs.PathLaws.{Adds}
 
 ------------------------------------------------------------------------
@@ -50,22 +49,6 @@ pub record Drawn (limit : ℕ) (P R : List ℕ) (rule : Rule) (s : Drawing) : Ty
 
 pub same-drawing : {s t : Drawing} → s .times ≡ t .times → s .x ≡ t .x → s .y ≡ t .y → s ≡ t
 same-drawing p q r = λ i. record { times = p i; x = q i; y = r i }
-
-------------------------------------------------------------------------
--- The lengths
-
-pub all-three : (n : ℕ) (s : Drawing) → length (s .times) ≡ n → length (s .x) ≡ n → length (s .y) ≡ n
-    → allLong n (s .times ∷ s .x ∷ s .y ∷ []) ≡ true
-unfolding allLong
-all-three n s t x y = both-is (eq-eqb _ n t) (both-is (eq-eqb _ n x) (both-is (eq-eqb _ n y) refl))
-
-pub three-long : (n : ℕ) (s : Drawing) → allLong n (s .times ∷ s .x ∷ s .y ∷ []) ≡ true
-    → (length (s .times) ≡ n) × (length (s .x) ≡ n) × (length (s .y) ≡ n)
-unfolding allLong
-three-long n s e =
-    let t = both (eqb (length (s .times)) n) _ e in
-    let places = two-long n (s .x) (s .y) (t .1) in
-    (eqb-true _ n (t .0), places .0, places .1)
 
 ------------------------------------------------------------------------
 -- The test of a node
@@ -149,19 +132,18 @@ module _ (limit : ℕ) (P R : List ℕ) (rule : Rule) where
         there = both-is (coordinate-placed (s .times) acrossOf (s .x) (d .x) v l)
             (coordinate-placed (s .times) upOf (s .y) (d .y) v l)
 
-    pub fits-drawn : 0 < length P → lengthsFit P s ≡ true
+    pub fits-drawn : 0 < length P → length (s .times) ≡ length P → length (s .x) ≡ length P → length (s .y) ≡ length P
         → ((v : ℕ) → v < length P → nodeFits limit P R rule s v ≡ true) → Drawn limit P R rule s
     unfolding bothPlaced
-    fits-drawn n long all =
-        let three = three-long (length P) s long in
+    fits-drawn n long-times long-x long-y all =
         let once : getD (s .times) 0 0 ≡ 1 = eqb-true (getD (s .times) 0 0) 1 (root .0) in
         record {
-          long = three .0;
+          long = long-times;
           root-once = once;
           some = λ v l. by-eq v 0 (λ e. omega (arith, ap (λ z. getD (s .times) z 0) e))
               (λ ne. leb-true 1 (getD (s .times) v 0) (node v (omega arith) l .0));
-          x = placed-coordinate (s .times) acrossOf (s .x) n (three .1) (λ v l. there v l .0);
-          y = placed-coordinate (s .times) upOf (s .y) n (three .2) (λ v l. there v l .1);
+          x = placed-coordinate (s .times) acrossOf (s .x) n long-x (λ v l. there v l .0);
+          y = placed-coordinate (s .times) upOf (s .y) n long-y (λ v l. there v l .1);
         }
       where
         root : (eqb (getD (s .times) 0 0) 1 ≡ true) × (bothPlaced 0 ≡ true)

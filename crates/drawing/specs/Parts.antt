@@ -4,7 +4,8 @@
 --   FramesFit L            == so is every frame within the limits L
 --   Sized P R s W          == the lists of s are as long as the table, which is numbered
 --   Blank P R rule s W     == and a fresh drawing has places below 2^32
---   Prepared L .. r        == refusals 1 to 7 of a call on the drawing s; if none, s is Sized
+--   SizedSheet P R s W     == a Sized drawing, and held as long
+--   Prepared L .. r        == refusals 1 to 7 of a call on the sheet s; if none, s is a SizedSheet
 use mathlib.Core.List.{List}
 use mathlib.Core.Path.{_≡_, ap, subst⁻¹}
 use Prim.Native.Nat.{ℕ, _+_, _^_, _<_}
@@ -17,7 +18,7 @@ use Rattle.table.specs.Parts.{Tested}
 use Rattle.table.specs.Table.{large, tableFault}
 use Rattle.slopes.specs.declared.Rule.{Rule}
 use Rattle.slopes.specs.SlopeLaws.{acrossBound, upBound}
-use Rattle.drawing.specs.Drawing.{Drawing, lengthsFit, largest}
+use Rattle.drawing.specs.Drawing.{Drawing, Sheet, lengthsFit, largest}
 use Rattle.drawing.specs.DrawingLaws.{Drawn, largest-within}
 
 abbrev pub Framable : List ℕ → List ℕ → Type 0
@@ -37,9 +38,13 @@ pub record Blank (P R : List ℕ) (rule : Rule) (s : Drawing) (W : List ℕ) : T
   pub wide : acrossBound rule (length P) < 2 ^ 32
   pub tall : upBound rule (length P) < 2 ^ 32
 
-abbrev pub Prepared : Limits → List ℕ → List ℕ → Drawing → List ℕ → List ℕ → Validity → Type 0
+pub record SizedSheet (P R : List ℕ) (s : Sheet) (W : List ℕ) : Type 0 where
+  pub sized : Sized P R (s .drawing) W
+  pub held : length (s .held) ≡ length P
+
+abbrev pub Prepared : Limits → List ℕ → List ℕ → Sheet → List ℕ → List ℕ → Validity → Type 0
 Prepared L P R s W X =
-    Tested L P R (lengthsFit P s) W X (tableFault L P R (lengthsFit P s) (length W)) (Sized P R s X)
+    Tested L P R (lengthsFit P s) W X (tableFault L P R (lengthsFit P s) (length W)) (SizedSheet P R s X)
 
 pub framable : {limit : ℕ} {P R : List ℕ} {rule : Rule} {s t : Drawing} → limit + 1 < 2 ^ 32 → Drawn limit P R rule s
     → t ≡ s → Framable (t .x) (t .y)

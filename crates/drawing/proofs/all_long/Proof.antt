@@ -13,7 +13,15 @@ returns c = first-fails _ (ne-eqb _ _ (c .if1 .taken))
 
 returns-2 : tie.Need-returns-2
 unfolding allLong
-returns-2 c = c .both-long .ensures ∙ first-holds _ (eq-eqb _ _ (c .before .if1 .left))
+returns-2 c =
+    first-fails _ (ne-eqb _ _ (c .if2 .taken)) ∙ first-holds _ (eq-eqb _ _ (c .before .if1 .left))
+
+returns-3 : tie.Need-returns-3
+unfolding allLong
+returns-3 c =
+    let second = c .before in
+    c .both-long .ensures ∙ first-holds _ (eq-eqb _ _ (second .if2 .left))
+    ∙ first-holds _ (eq-eqb _ _ (second .before .if1 .left))
 
 pub all-long-spec : {M : Type 1} → statement M
-all-long-spec = tie.close (tie.spec returns (λ c κs. search needs) returns-2)
+all-long-spec = tie.close (tie.spec returns returns-2 (λ c κs. search needs) returns-3)
