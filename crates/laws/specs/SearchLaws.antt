@@ -1,9 +1,9 @@
 -- Laws of counting, searching and tabulating below a bound.
-use mathlib.Core.Bool.{Bool, true, false}
+use mathlib.Core.Bool.{Bool, true, false, _||_}
 use mathlib.Core.List.{List, [], _∷_}
 use mathlib.Core.Logic.{⊎-elim}
 use mathlib.Core.Path.{_≡_, refl, sym, ap, ap₂, subst⁻¹, _∙_}
-use Prim.Native.Nat.{ℕ, zero, suc, _+_, _≤_, _<_}
+use Prim.Native.Nat.{ℕ, zero, suc, _+_, _≤_, _<_, min}
 use native.Mathlib.Nat.{eq-or-lt-of-le, le-of-suc-le-suc}
 use native.Mathlib.Numerals.{add-one}
 use native.Mathlib.Omega.{arith}
@@ -12,7 +12,7 @@ use lib.ListN.{length, getD, length-append, List·getD-append}
 use lib.Seq.{getD-at, ext-getD}
 use borrow.Author.Tests.{ltb-true, ltb-false}
 use Rattle.laws.specs.Search.{bit, count, least, tabulate}
-use Rattle.laws.specs.Tests.{by-test, by-lt, differ, trichotomy}
+use Rattle.laws.specs.Tests.{by-test, by-lt, differ, either-first, either-second, neither-is, trichotomy}
 
 ------------------------------------------------------------------------
 -- How many pass
@@ -125,6 +125,19 @@ least-cong f g n e =
     least-is g n (least f n) (least-le f n)
     (λ k l. sym (e k (omega (arith, least-le f n))) ∙ least-below f n k l)
     (λ l. sym (e (least f n) l) ∙ least-passes f n l)
+
+-- of two tests
+pub least-either : (f g : ℕ → Bool) (n : ℕ) → min (least f n) (least g n) ≡ least (λ z. f z || g z) n
+least-either f g n =
+    least-is (λ z. f z || g z) n (min (least f n) (least g n)) (omega (arith, least-le f n))
+    (λ k l. neither-is (least-below f n k (omega arith)) (least-below g n k (omega arith)))
+    (λ l. by-lt (least g n) (least f n)
+    (λ less.
+    let e : min (least f n) (least g n) ≡ least g n = omega arith in
+    subst⁻¹ (λ k. f k || g k ≡ true) e (either-second (f (least g n)) _ (least-passes g n (omega arith))))
+    (λ more.
+    let e : min (least f n) (least g n) ≡ least f n = omega arith in
+    subst⁻¹ (λ k. f k || g k ≡ true) e (either-first _ (g (least f n)) (least-passes f n (omega arith)))))
 
 ------------------------------------------------------------------------
 -- Tables

@@ -19,7 +19,8 @@ use Rattle.slopes.specs.declared.Slope.{Slope}
 use Rattle.slopes.specs.Slopes.{acrossOf, upOf, slopeAt, edge}
 use Rattle.drawing.specs.Drawing.{Drawing, placed, nodeFits}
 use Rattle.drawing.specs.DrawingLaws.{bothPlaced, placed-root, placed-node, fits-root, fits-node}
-use Rattle.stretching.specs.Parts.{AllFit, placedFrom, rootFits}
+use Rattle.drawing.specs.SheetLaws.{held-root, held-node}
+use Rattle.stretching.specs.Parts.{AllFit, placedFrom, rootFits, misheld}
 use Rattle.laws.specs.Tests.{first-fails, first-holds}
 
 ------------------------------------------------------------------------
@@ -174,3 +175,21 @@ pub none-misfit : {limit : ℕ} {P R : List ℕ} {rule : Rule} {s : Drawing} {r 
 none-misfit {limit} {P} {R} {rule} {s} x t =
     least-is (misfit limit P R rule s) (length P) (length P) (omega arith) (λ k l. ap not (x .yes t k l))
     (λ l. absurd (omega arith))
+
+------------------------------------------------------------------------
+-- Entries of held
+
+module _ (held : List ℕ) where
+  module _ {a : ℕ} (is : a ≡ getD held 0 0) where
+    pub root-misheld : (a ≡ 0 → ⊥) → misheld held 0 ≡ true
+    root-misheld ne = ap not (held-root held ∙ lt-leb (getD held 0 0) 0 (omega arith))
+
+    pub root-unheld : a ≡ 0 → misheld held 0 ≡ false
+    root-unheld e = ap not (held-root held ∙ le-leb (getD held 0 0) 0 (omega arith))
+
+  module _ (v : ℕ) (above : 1 ≤ v) {a : ℕ} (is : a ≡ getD held v 0) where
+    pub node-misheld : 1 < a → misheld held v ≡ true
+    node-misheld h = ap not (held-node held v above ∙ lt-leb (getD held v 0) 1 (omega arith))
+
+    pub node-well : a ≤ 1 → misheld held v ≡ false
+    node-well h = ap not (held-node held v above ∙ le-leb (getD held v 0) 1 (omega arith))

@@ -20,14 +20,14 @@ use Rattle.slopes.specs.declared.Slope.{Slope}
 use Rattle.slopes.specs.Slopes.{acrossOf, upOf, edge}
 use Rattle.drawing.specs.declared.Framed.{Framed}
 use Rattle.drawing.specs.declared.Framed.the-variants as framed
-use Rattle.drawing.specs.Drawing.{Drawing, lent, frame, redrawn, OnDrawing}
+use Rattle.drawing.specs.Drawing.{Drawing, lent, Sheet, sheetOf, frame, redrawn, OnSheet}
 use Rattle.drawing.specs.DrawingLaws.{Coordinate, Drawn, drawn-times, same-drawing}
 use Rattle.drawing.specs.Parts.{FramesFit}
-use Rattle.stretching.specs.CallLaws.{Examined, examined, beyond-no, beyond-x, beyond-y, no-beyond}
-use Rattle.stretching.specs.Parts.{by, Examining, Passes, Movable, Stretchable}
+use Rattle.stretching.specs.CallLaws.{Examined, free, beyond-x, beyond-y, no-beyond, longer-drawn, shorter-drawn}
+use Rattle.stretching.specs.Parts.{by, Unheld, Passes, Movable, Stretchable}
 use Rattle.stretching.specs.Stretching.{moved, stretched, beyond, stretchFault, lengthen, shorten}
 use Rattle.stretching.specs.StretchLaws.{shorter, longer, Moved, offset-in, moved-in, moved-out}
-use Rattle.stretching.specs.StretchLaws.{longer-stretch, back-room, shorter-stretch, stretch-drawn, unstretch-drawn}
+use Rattle.stretching.specs.StretchLaws.{longer-stretch, back-room}
 
 ------------------------------------------------------------------------
 -- The limit
@@ -115,26 +115,28 @@ stretched-is {P} {s = s} {v = v} {c} {longer} x is across up et ek p q r =
 ------------------------------------------------------------------------
 -- The outcomes
 
-module _ {L : Limits} {P R : List ℕ} (rule : Rule) {s : Drawing} {W : List ℕ} (v : ℕ) {X : List ℕ} {r : Validity}
-    (k : Examining L P R rule s W v X r) where
-  -- both calls are refusals 1 to 10, then one of their own, then the new drawing
+module _ {L : Limits} {P R : List ℕ} (rule : Rule) {s : Sheet} {W : List ℕ} (v : ℕ) {X : List ℕ} {r : Validity}
+    (k : Unheld L P R rule s W v X r) where
+  -- both calls are refusals 1 to 10 and 22, then one of their own, then the new drawing
   abbrev After : Option Refusal → Drawing → Drawing → Framed → Type 0
   After own new t a =
-      OnDrawing L P R s W t X a
-      (redrawn (stretchFault L P R rule s (length W) v orElse own) s new)
+      OnSheet L P R s W (sheetOf t (s .held)) X a
+      (redrawn (stretchFault L P R rule s (length W) v orElse own) s (sheetOf new (s .held)))
 
-  refused : {a z : ℕ} (own : Option Refusal) (new : Drawing) → r ≡ Refused a z → After own new s (framed.Refused a z)
+  refused : {a z : ℕ} (own : Option Refusal) (new : Drawing) → r ≡ Refused a z
+      → After own new (s .drawing) (framed.Refused a z)
   refused own new e = record {
-    says = sym (settle-some framed.Refused s (frame new) new _ (orElse-first _ own (fault k e)));
+    says = sym (settle-some framed.Refused s (frame new) (sheetOf new (s .held)) _ (orElse-first _ own (fault k e)));
     spared = k .spared;
     long = k .long;
   }
 
   module _ (ok : r ≡ Accepted) where
     own-refused : {a z : ℕ} (own : Option Refusal) (new : Drawing) → own ≡ refusal a z
-        → After own new s (framed.Refused a z)
+        → After own new (s .drawing) (framed.Refused a z)
     own-refused own new e = record {
-      says = sym (settle-some framed.Refused s (frame new) new _ (orElse-second _ own (no-fault k ok) ∙ e));
+      says = sym (settle-some framed.Refused s (frame new) (sheetOf new (s .held)) _
+          (orElse-second _ own (no-fault k ok) ∙ e));
       spared = k .spared;
       long = k .long;
     }
@@ -142,115 +144,113 @@ module _ {L : Limits} {P R : List ℕ} (rule : Rule) {s : Drawing} {W : List ℕ
     renewed : (own : Option Refusal) (new : Drawing) {t : Drawing} {q : Framed} → own ≡ none → t ≡ new → q ≡ frame t
         → After own new t q
     renewed own new {t} e is fr = record {
-      says = ap (λ (a : Framed). record { answer = a; left = t }) fr
-          ∙ ap (λ (u : Drawing). record { answer = frame u; left = u }) is
-          ∙ sym (settle-none framed.Refused s (frame new) new _ (orElse-second _ own (no-fault k ok) ∙ e));
+      says = ap (λ (a : Framed). record { answer = a; left = sheetOf t (s .held) }) fr
+          ∙ ap (λ (u : Drawing). record { answer = frame u; left = sheetOf u (s .held) }) is
+          ∙ sym (settle-none framed.Refused s (frame new) (sheetOf new (s .held)) _
+          (orElse-second _ own (no-fault k ok) ∙ e));
       spared = k .spared;
       long = k .long;
     }
 
     pub examined-of : Examined L P R rule s (length W) v
-    examined-of = examined L P R rule s (length W) v (no-fault k ok)
+    examined-of = free L P R rule s (length W) v (no-fault k ok) .examined
 
   module _ (c : ℕ) where
+    abbrev on : Drawing
+    on = longer P R rule (s .drawing) v c
+
+    abbrev back : Drawing
+    back = shorter P R rule (s .drawing) v c
+
     abbrev Lengthened : Drawing → Framed → Type 0
-    Lengthened t a = OnDrawing L P R s W t X a (lengthen L P R rule s (length W) v c)
+    Lengthened t a = OnSheet L P R s W (sheetOf t (s .held)) X a (lengthen L P R rule s (length W) v c)
 
     abbrev Shortened : Drawing → Framed → Type 0
-    Shortened t a = OnDrawing L P R s W t X a (shorten L P R rule s (length W) v c)
+    Shortened t a = OnSheet L P R s W (sheetOf t (s .held)) X a (shorten L P R rule s (length W) v c)
 
-    pub lengthened-refused : {a z : ℕ} → r ≡ Refused a z → Lengthened s (framed.Refused a z)
+    pub lengthened-refused : {a z : ℕ} → r ≡ Refused a z → Lengthened (s .drawing) (framed.Refused a z)
     unfolding lengthen
-    lengthened-refused e = refused _ (longer P R rule s v c) e
+    lengthened-refused e = refused _ on e
 
-    pub shortened-refused : {a z : ℕ} → r ≡ Refused a z → Shortened s (framed.Refused a z)
+    pub shortened-refused : {a z : ℕ} → r ≡ Refused a z → Shortened (s .drawing) (framed.Refused a z)
     unfolding shorten
-    shortened-refused e = refused _ (shorter P R rule s v c) e
+    shortened-refused e = refused _ back e
 
     module _ (ok : r ≡ Accepted) where
-      pub lengthened-beyond : {q : Bool} → q ≡ beyond (L .place) (length P) (longer P R rule s v c) → q ≡ true
-          → Lengthened s (framed.Refused (L .far) v)
+      pub lengthened-beyond : {q : Bool} → q ≡ beyond (L .place) (length P) on → q ≡ true
+          → Lengthened (s .drawing) (framed.Refused (L .far) v)
       unfolding lengthen
       lengthened-beyond e t =
-          own-refused ok _ (longer P R rule s v c) (refuse-yes _ (L .far) v (sym e ∙ t))
+          own-refused ok _ on (refuse-yes _ (L .far) v (sym e ∙ t))
 
-      pub lengthened : {q : Bool} {t : Drawing} {a : Framed} → q ≡ beyond (L .place) (length P) (longer P R rule s v c)
-          → q ≡ false → t ≡ longer P R rule s v c → a ≡ frame t → Lengthened t a
+      pub lengthened : {q : Bool} {t : Drawing} {a : Framed} → q ≡ beyond (L .place) (length P) on
+          → q ≡ false → t ≡ on → a ≡ frame t → Lengthened t a
       unfolding lengthen
-      lengthened e f = renewed ok _ (longer P R rule s v c) (refuse-no _ (L .far) v (sym e ∙ f))
+      lengthened e f = renewed ok _ on (refuse-no _ (L .far) v (sym e ∙ f))
 
-      pub shortened-12 : {n : ℕ} → n ≡ getD (s .times) v 0 → n ≤ c → Shortened s (framed.Refused 12 v)
+      pub shortened-12 : {n : ℕ} → n ≡ getD (s .drawing .times) v 0 → n ≤ c → Shortened (s .drawing) (framed.Refused 12 v)
       unfolding shorten
       shortened-12 e h =
-          own-refused ok _ (shorter P R rule s v c)
-          (refuse-yes _ 12 v (le-leb (getD (s .times) v 0) c (omega arith)))
+          own-refused ok _ back
+          (refuse-yes _ 12 v (le-leb (getD (s .drawing .times) v 0) c (omega arith)))
 
-      pub shortened : {n : ℕ} {t : Drawing} {a : Framed} → n ≡ getD (s .times) v 0 → c < n
-          → t ≡ shorter P R rule s v c → a ≡ frame t → Shortened t a
+      pub shortened : {n : ℕ} {t : Drawing} {a : Framed} → n ≡ getD (s .drawing .times) v 0 → c < n
+          → t ≡ back → a ≡ frame t → Shortened t a
       unfolding shorten
       shortened e h =
-          renewed ok _ (shorter P R rule s v c)
-          (refuse-no _ 12 v (lt-leb (getD (s .times) v 0) c (omega arith)))
+          renewed ok _ back
+          (refuse-no _ 12 v (lt-leb (getD (s .drawing .times) v 0) c (omega arith)))
 
       -- the new drawing is one, within the limits
-      pub longer-drawn : {q : Bool} → q ≡ beyond (L .place) (length P) (longer P R rule s v c) → q ≡ false
-          → Drawn (L .place) P R rule (longer P R rule s v c)
-      longer-drawn e f =
-          let x = examined-of ok in
-          stretch-drawn (x .inspected .accepting .tree) (x .above) (x .inside)
-          (longer-stretch (x .inspected .drawn) (x .inside)) (x .inspected .drawn)
-          (beyond-no (L .place) (length P) (longer P R rule s v c) (sym e ∙ f))
+      pub new-longer : {q : Bool} → q ≡ beyond (L .place) (length P) on → q ≡ false → Drawn (L .place) P R rule on
+      new-longer e f = longer-drawn L P R rule s (length W) v c (examined-of ok) (sym e ∙ f)
 
-      pub shorter-drawn : {n : ℕ} → n ≡ getD (s .times) v 0 → c < n → Drawn (L .place) P R rule (shorter P R rule s v c)
-      shorter-drawn e h =
-          let x = examined-of ok in
-          unstretch-drawn (x .inspected .accepting .tree) (x .above) (x .inside)
-          (shorter-stretch (x .inspected .accepting .tree) (x .above) (x .inside) (x .inspected .drawn) (omega arith))
-          (x .inspected .drawn) (omega arith)
+      pub new-shorter : {n : ℕ} → n ≡ getD (s .drawing .times) v 0 → c < n → Drawn (L .place) P R rule back
+      new-shorter e h = shorter-drawn L P R rule s (length W) v c (examined-of ok) (omega arith)
 
       -- within the limit, the longer drawing has times and places that fit
-      pub can-lengthen : {q : Bool} → FramesFit L → q ≡ beyond (L .place) (length P) (longer P R rule s v c)
-          → q ≡ false → Stretchable P R rule s X v c true
+      pub can-lengthen : {q : Bool} → FramesFit L → q ≡ beyond (L .place) (length P) on
+          → q ≡ false → Stretchable P R rule (s .drawing) X v c true
       unfolding stretched
       can-lengthen low e f =
           let x = examined-of ok in
-          let m = longer-stretch {c = c} (x .inspected .drawn) (x .inside) in
-          let d = longer-drawn e f in
+          let m = longer-stretch {c = c} (x .inspected .sound .drawn) (x .inside) in
+          let d = new-longer e f in
           record {
-            numbered = k .left ok .numbered;
+            numbered = k .left ok .sized .numbered;
             above = x .above;
             inside = x .inside;
-            long = x .inspected .drawn .long;
+            long = x .inspected .sound .drawn .long;
             more = λ t. omega (arith, drawn-times (x .inspected .accepting .tree) d v (x .above) (x .inside), m .here);
             less = λ t. absurd (differ refl t);
             x = movable-on (m .x) (omega arith) (d .x .within);
             y = movable-on (m .y) (omega arith) (d .y .within);
           }
 
-      pub can-shorten : {n : ℕ} → n ≡ getD (s .times) v 0 → c < n → Stretchable P R rule s X v c false
+      pub can-shorten : {n : ℕ} → n ≡ getD (s .drawing .times) v 0 → c < n → Stretchable P R rule (s .drawing) X v c false
       can-shorten e h =
           let x = examined-of ok in
-          let less : c ≤ getD (s .times) v 0 = omega arith in
+          let less : c ≤ getD (s .drawing .times) v 0 = omega arith in
           record {
-            numbered = k .left ok .numbered;
+            numbered = k .left ok .sized .numbered;
             above = x .above;
             inside = x .inside;
-            long = x .inspected .drawn .long;
+            long = x .inspected .sound .drawn .long;
             more = λ t. absurd (differ t refl);
             less = λ t. less;
-            x = movable-back (x .inspected .drawn .x .long)
-                (back-room (x .inspected .accepting .tree) (x .above) (x .inside) (x .inspected .drawn .x) less);
-            y = movable-back (x .inspected .drawn .y .long)
-                (back-room (x .inspected .accepting .tree) (x .above) (x .inside) (x .inspected .drawn .y) less);
+            x = movable-back (x .inspected .sound .drawn .x .long)
+                (back-room (x .inspected .accepting .tree) (x .above) (x .inside) (x .inspected .sound .drawn .x) less);
+            y = movable-back (x .inspected .sound .drawn .y .long)
+                (back-room (x .inspected .accepting .tree) (x .above) (x .inside) (x .inspected .sound .drawn .y) less);
           }
 
 -- at limits that are the same
-module _ {L M : Limits} (P R : List ℕ) (rule : Rule) (s : Drawing) (W : List ℕ) (v c : ℕ) {t : Drawing} {X : List ℕ}
+module _ {L M : Limits} (P R : List ℕ) (rule : Rule) (s : Sheet) (W : List ℕ) (v c : ℕ) {t : Sheet} {X : List ℕ}
     {r : Framed} (e : L ≡ M) where
-  pub lengthened-at : OnDrawing L P R s W t X r (lengthen L P R rule s (length W) v c)
-      → OnDrawing M P R s W t X r (lengthen M P R rule s (length W) v c)
-  lengthened-at = subst (λ M. OnDrawing M P R s W t X r (lengthen M P R rule s (length W) v c)) e
+  pub lengthened-at : OnSheet L P R s W t X r (lengthen L P R rule s (length W) v c)
+      → OnSheet M P R s W t X r (lengthen M P R rule s (length W) v c)
+  lengthened-at = subst (λ M. OnSheet M P R s W t X r (lengthen M P R rule s (length W) v c)) e
 
-  pub shortened-at : OnDrawing L P R s W t X r (shorten L P R rule s (length W) v c)
-      → OnDrawing M P R s W t X r (shorten M P R rule s (length W) v c)
-  shortened-at = subst (λ M. OnDrawing M P R s W t X r (shorten M P R rule s (length W) v c)) e
+  pub shortened-at : OnSheet L P R s W t X r (shorten L P R rule s (length W) v c)
+      → OnSheet M P R s W t X r (shorten M P R rule s (length W) v c)
+  shortened-at = subst (λ M. OnSheet M P R s W t X r (shorten M P R rule s (length W) v c)) e

@@ -1,12 +1,13 @@
--- What refusals 1 to 10 leave, and what lengthen and shorten do.
+-- What refusals 1 to 10 and 22 leave, and what lengthen and shorten do.
 --
 --   Examined L ..               == what refusals 1 to 10 leave
+--   Free L ..                   == what refusals 1 to 10 and 22 leave
 --   Untouched s o               == the outcome o of a call on s is a refusal
 --   Stretching L .. v c s t o   == the outcome o of a call is its frame, and of s and t, the shorter and the longer
---                                  drawing, one was given and the other is left
+--                                  drawing, one was given and the other is left; v's edge is free, and held as it was
 --   lengthen-does, shorten-does == lengthen and shorten refuse or stretch
 --   shorten-undoes              == shorten undoes lengthen
---   lengthen-0, shorten-0       == count 0 changes nothing and is no ground for a refusal
+--   lengthen-0, shorten-0       == of a free edge count 0 changes nothing and is no ground for a refusal
 use mathlib.Core.Bool.{Bool, true, false, not, _||_}
 use mathlib.Core.List.{List}
 use mathlib.Core.Logic.{_⊎_, inl, inr}
@@ -14,7 +15,7 @@ use mathlib.Core.Option.{Option, none, some}
 use mathlib.Core.Path.{_≡_, refl, sym, ap, ap₂, subst, subst⁻¹, _∙_}
 use Prim.Native.Nat.{ℕ, _≤_, _<_}
 use native.Mathlib.Omega.{arith}
-use lib.Dec.{ltb, leb}
+use lib.Dec.{ltb, leb, eqb}
 use lib.ListN.{length, getD}
 use borrow.Author.Tests.{ltb-false, lt-ltb, le-ltb, lt-leb, leb-false, eqb-false, ne-eqb, not-false}
 use Rattle.laws.specs.Refusals.{orElse-second, orElse-none, refuse-no, refuse-none}
@@ -26,27 +27,28 @@ use Rattle.table.specs.declared.Limits.{Limits}
 use Rattle.slopes.specs.declared.Rule.{Rule}
 use Rattle.drawing.specs.declared.Framed.{Framed}
 use Rattle.drawing.specs.declared.Framed.the-variants.{Frame, Refused}
-use Rattle.drawing.specs.Drawing.{Drawing, frame, drawingFault, redrawn}
+use Rattle.drawing.specs.Drawing.{Drawing, Sheet, sheetOf, frame, sheetFault, redrawn}
 use Rattle.drawing.specs.DrawingLaws.{Drawn}
 use Rattle.drawing.specs.CallLaws.{settled, Inspected, inspected, inspected-again}
-use Rattle.stretching.specs.Stretching.{beyond, edgeFault, stretchFault, lengthen, shorten}
+use Rattle.drawing.specs.SheetLaws.{Sound}
+use Rattle.stretching.specs.Stretching.{beyond, edgeFault, lotFault, isHeld, stretchFault, lengthen, shorten}
 use Rattle.stretching.specs.StretchLaws.{shorter, longer, Stretch, longer-stretch, shorter-stretch, stretch-drawn}
 use Rattle.stretching.specs.StretchLaws.{unstretch-drawn, stretch-one, unstretch-one, stretch-0}
 
 ------------------------------------------------------------------------
--- Refusals 8 to 11
+-- Refusals 8 to 11, and 22
 
-pub record Examined (L : Limits) (P R : List ℕ) (rule : Rule) (s : Drawing) (work v : ℕ) : Type 0 where
+pub record Examined (L : Limits) (P R : List ℕ) (rule : Rule) (s : Sheet) (work v : ℕ) : Type 0 where
   pub inspected : Inspected L P R rule s work
   pub above : 0 < v
   pub inside : v < length P
 
-pub examined : (L : Limits) (P R : List ℕ) (rule : Rule) (s : Drawing) (work v : ℕ)
-    → stretchFault L P R rule s work v ≡ none
+pub examined : (L : Limits) (P R : List ℕ) (rule : Rule) (s : Sheet) (work v : ℕ)
+    → lotFault L P R rule s work v ≡ none
     → Examined L P R rule s work v
-unfolding stretchFault edgeFault
+unfolding lotFault edgeFault
 examined L P R rule s work v e =
-    let a = orElse-none (drawingFault L P R rule s work) _ e in
+    let a = orElse-none (sheetFault L P R rule s work) _ e in
     let b = orElse-none (refuse (leb (length P) v) 9 0) _ (a .1) in
     let ne : v ≡ 0 → ⊥ = eqb-false v 0 (refuse-none _ 10 0 (b .1)) in
     record {
@@ -55,14 +57,30 @@ examined L P R rule s work v e =
       inside = leb-false (length P) v (refuse-none _ 9 0 (b .0));
     }
 
--- another drawing passes too
-pub examined-again : {L : Limits} {P R : List ℕ} {rule : Rule} {s : Drawing} {work v : ℕ} → Examined L P R rule s work v
-    → {t : Drawing} → Drawn (L .place) P R rule t → stretchFault L P R rule t work v ≡ none
-unfolding stretchFault edgeFault
-examined-again {P = P} {v = v} x d =
-    orElse-second _ _ (inspected-again (x .inspected) d)
+-- another sheet passes too
+pub examined-again : {L : Limits} {P R : List ℕ} {rule : Rule} {s : Sheet} {work v : ℕ} → Examined L P R rule s work v
+    → {t : Sheet} → Sound (L .place) P R rule t → lotFault L P R rule t work v ≡ none
+unfolding lotFault edgeFault
+examined-again {P = P} {v = v} x a =
+    orElse-second _ _ (inspected-again (x .inspected) a)
     ∙ orElse-second _ _ (refuse-no _ 9 0 (lt-leb (length P) v (x .inside)))
     ∙ refuse-no _ 10 0 (ne-eqb v 0 (λ e. omega arith))
+
+pub record Free (L : Limits) (P R : List ℕ) (rule : Rule) (s : Sheet) (work v : ℕ) : Type 0 where
+  pub examined : Examined L P R rule s work v
+  pub free : isHeld s v ≡ false
+
+pub free : (L : Limits) (P R : List ℕ) (rule : Rule) (s : Sheet) (work v : ℕ)
+    → stretchFault L P R rule s work v ≡ none → Free L P R rule s work v
+unfolding stretchFault
+free L P R rule s work v e =
+    let a = orElse-none (lotFault L P R rule s work v) _ e in
+    record { examined = examined L P R rule s work v (a .0); free = refuse-none _ 22 v (a .1) }
+
+pub free-again : {L : Limits} {P R : List ℕ} {rule : Rule} {s : Sheet} {work v : ℕ} → Examined L P R rule s work v
+    → {t : Sheet} → Sound (L .place) P R rule t → isHeld t v ≡ false → stretchFault L P R rule t work v ≡ none
+unfolding stretchFault
+free-again {v = v} x a e = orElse-second _ _ (examined-again x a) ∙ refuse-no _ 22 v e
 
 module _ (limit n : ℕ) (t : Drawing) where
   abbrev far : ℕ → Bool
@@ -98,131 +116,174 @@ module _ (limit n : ℕ) (t : Drawing) where
 ------------------------------------------------------------------------
 -- What the calls do
 
-pub record Untouched (s : Drawing) (o : Outcome Framed Drawing) : Type 0 where
+pub record Untouched (s : Sheet) (o : Outcome Framed Sheet) : Type 0 where
   pub number : ℕ
   pub node : ℕ
   pub answer : o .answer ≡ Refused number node
   pub left : o .left ≡ s
 
-pub record Stretching (L : Limits) (P R : List ℕ) (rule : Rule) (v c : ℕ) (s t : Drawing)
-    (o : Outcome Framed Drawing) : Type 0 where
+pub record Stretching (L : Limits) (P R : List ℕ) (rule : Rule) (v c : ℕ) (H : List ℕ) (s t : Drawing)
+    (o : Outcome Framed Sheet) : Type 0 where
   pub above : 0 < v
   pub inside : v < length P
-  pub answer : o .answer ≡ frame (o .left)
-  pub drawn : Drawn (L .place) P R rule (o .left)
+  pub free : eqb (getD H v 0) 1 ≡ false
+  pub answer : o .answer ≡ frame (o .left .drawing)
+  pub drawn : Drawn (L .place) P R rule (o .left .drawing)
+  pub held : o .left .held ≡ H
   pub stretch : Stretch P R rule v c s t
 
-module _ (L : Limits) (P R : List ℕ) (rule : Rule) (s : Drawing) (work v c : ℕ) where
+module _ (L : Limits) (P R : List ℕ) (rule : Rule) (s : Sheet) (work v c : ℕ) where
+  abbrev on : Drawing
+  on = longer P R rule (s .drawing) v c
+
+  abbrev back : Drawing
+  back = shorter P R rule (s .drawing) v c
+
+  abbrev onSheet : Sheet
+  onSheet = sheetOf on (s .held)
+
+  abbrev backSheet : Sheet
+  backSheet = sheetOf back (s .held)
+
   abbrev tooFar : Option Refusal
-  tooFar = refuse (beyond (L .place) (length P) (longer P R rule s v c)) (L .far) v
+  tooFar = refuse (beyond (L .place) (length P) on) (L .far) v
 
   abbrev tooShort : Option Refusal
-  tooShort = refuse (leb (getD (s .times) v 0) c) 12 v
+  tooShort = refuse (leb (getD (s .drawing .times) v 0) c) 12 v
+
+  -- the longer drawing of a sheet that is not refused, and the shorter one
+  pub longer-drawn : Examined L P R rule s work v → beyond (L .place) (length P) on ≡ false
+      → Drawn (L .place) P R rule on
+  longer-drawn x near =
+      let drawn = x .inspected .sound .drawn in
+      stretch-drawn (x .inspected .accepting .tree) (x .above) (x .inside) (longer-stretch drawn (x .inside)) drawn
+      (beyond-no (L .place) (length P) on near)
+
+  pub shorter-drawn : Examined L P R rule s work v → c < getD (s .drawing .times) v 0 → Drawn (L .place) P R rule back
+  shorter-drawn x less =
+      let drawn = x .inspected .sound .drawn in
+      let tree = x .inspected .accepting .tree in
+      unstretch-drawn tree (x .above) (x .inside) (shorter-stretch tree (x .above) (x .inside) drawn (omega arith)) drawn
+      less
 
   pub lengthen-does : (let o = lengthen L P R rule s work v c in
-      Untouched s o ⊎ Stretching L P R rule v c s (o .left) o)
+      Untouched s o ⊎ Stretching L P R rule v c (s .held) (s .drawing) (o .left .drawing) o)
   unfolding lengthen
   lengthen-does = go (stretchFault L P R rule s work v orElse tooFar) refl
     where
-      new : Drawing
-      new = longer P R rule s v c
-
       go : (f : Option Refusal) → (stretchFault L P R rule s work v orElse tooFar) ≡ f
-          → Untouched s (redrawn f s new) ⊎ Stretching L P R rule v c s (redrawn f s new .left) (redrawn f s new)
+          → Untouched s (redrawn f s onSheet)
+          ⊎ Stretching L P R rule v c (s .held) (s .drawing) (redrawn f s onSheet .left .drawing) (redrawn f s onSheet)
       go (some r) e = inl (record { number = r .number; node = r .node; answer = refl; left = refl })
       go none e =
           let parts = orElse-none (stretchFault L P R rule s work v) tooFar e in
-          let x = examined L P R rule s work v (parts .0) in
-          let m = longer-stretch {c = c} (x .inspected .drawn) (x .inside) in
+          let f = free L P R rule s work v (parts .0) in
+          let x = f .examined in
           inr (record {
             above = x .above;
             inside = x .inside;
+            free = f .free;
             answer = refl;
-            drawn = stretch-drawn (x .inspected .accepting .tree) (x .above) (x .inside) m (x .inspected .drawn)
-                (beyond-no (L .place) (length P) new (refuse-none _ (L .far) v (parts .1)));
-            stretch = m;
+            drawn = longer-drawn x (refuse-none _ (L .far) v (parts .1));
+            held = refl;
+            stretch = longer-stretch (x .inspected .sound .drawn) (x .inside);
           })
 
   pub shorten-does : (let o = shorten L P R rule s work v c in
-      Untouched s o ⊎ Stretching L P R rule v c (o .left) s o)
+      Untouched s o ⊎ Stretching L P R rule v c (s .held) (o .left .drawing) (s .drawing) o)
   unfolding shorten
   shorten-does = go (stretchFault L P R rule s work v orElse tooShort) refl
     where
-      new : Drawing
-      new = shorter P R rule s v c
-
       go : (f : Option Refusal) → (stretchFault L P R rule s work v orElse tooShort) ≡ f
-          → Untouched s (redrawn f s new) ⊎ Stretching L P R rule v c (redrawn f s new .left) s (redrawn f s new)
+          → Untouched s (redrawn f s backSheet)
+          ⊎ Stretching L P R rule v c (s .held) (redrawn f s backSheet .left .drawing) (s .drawing) (redrawn f s backSheet)
       go (some r) e = inl (record { number = r .number; node = r .node; answer = refl; left = refl })
       go none e =
           let parts = orElse-none (stretchFault L P R rule s work v) tooShort e in
-          let x = examined L P R rule s work v (parts .0) in
-          let less : c < getD (s .times) v 0 = leb-false (getD (s .times) v 0) c (refuse-none _ 12 v (parts .1)) in
-          let m = shorter-stretch (x .inspected .accepting .tree) {c = c} (x .above) (x .inside) (x .inspected .drawn)
-          (omega arith) in
+          let f = free L P R rule s work v (parts .0) in
+          let x = f .examined in
+          let less : c < getD (s .drawing .times) v 0 = leb-false _ c (refuse-none _ 12 v (parts .1)) in
           inr (record {
             above = x .above;
             inside = x .inside;
+            free = f .free;
             answer = refl;
-            drawn = unstretch-drawn (x .inspected .accepting .tree) (x .above) (x .inside) m (x .inspected .drawn) less;
-            stretch = m;
+            drawn = shorter-drawn x less;
+            held = refl;
+            stretch = shorter-stretch (x .inspected .accepting .tree) (x .above) (x .inside)
+                (x .inspected .sound .drawn)
+                (omega arith);
           })
 
--- shorten gives back the drawing that lengthen was given
-pub shorten-undoes : (L : Limits) (P R : List ℕ) (rule : Rule) (s : Drawing) (work v c w h : ℕ) (t : Drawing)
-    → lengthen L P R rule s work v c ≡ record { answer = Frame w h; left = t }
-    → shorten L P R rule t work v c ≡ record { answer = frame s; left = s }
-unfolding lengthen shorten
-shorten-undoes L P R rule s work v c w h t e =
-    let f =
-    settled s (longer P R rule s v c) (frame (longer P R rule s v c))
-    (stretchFault L P R rule s work v orElse tooFar L P R rule s work v c) e in
-    let parts = orElse-none (stretchFault L P R rule s work v) (tooFar L P R rule s work v c) (f .0) in
-    let x = examined L P R rule s work v (parts .0) in
-    let on : Stretch P R rule v c s t =
-    subst (λ u. Stretch P R rule v c s u) (f .1) (longer-stretch (x .inspected .drawn) (x .inside)) in
-    let d : Drawn (L .place) P R rule t =
-    stretch-drawn (x .inspected .accepting .tree) (x .above) (x .inside) on (x .inspected .drawn)
-    (subst (λ u. (z : ℕ) → z < length P → (getD (u .x) z 0 ≤ L .place) × (getD (u .y) z 0 ≤ L .place)) (f .1)
-    (beyond-no (L .place) (length P) (longer P R rule s v c) (refuse-none _ (L .far) v (parts .1)))) in
-    let less : c < getD (t .times) v 0 = omega (arith, on .here, x .inspected .drawn .some v (x .inside)) in
-    let back : Stretch P R rule v c (shorter P R rule t v c) t =
+-- shorten gives back the sheet that lengthen was given
+undone : (L : Limits) (P R : List ℕ) (rule : Rule) (s : Sheet) (work v c : ℕ) → Free L P R rule s work v
+    → beyond (L .place) (length P) (on L P R rule s work v c) ≡ false
+    → shorten L P R rule (onSheet L P R rule s work v c) work v c ≡ record { answer = frame (s .drawing); left = s }
+unfolding shorten
+undone L P R rule s work v c f near =
+    let x = f .examined in
+    let sound = x .inspected .sound in
+    let t = onSheet L P R rule s work v c in
+    let forth : Stretch P R rule v c (s .drawing) (t .drawing) = longer-stretch (sound .drawn) (x .inside) in
+    let d = longer-drawn L P R rule s work v c x near in
+    let less : c < getD (t .drawing .times) v 0 = omega (arith, forth .here, sound .drawn .some v (x .inside)) in
+    let again : Stretch P R rule v c (back L P R rule t work v c) (t .drawing) =
     shorter-stretch (x .inspected .accepting .tree) (x .above) (x .inside) d (omega arith) in
-    settle-none Refused t (frame (shorter P R rule t v c)) (shorter P R rule t v c) _
-    (orElse-second _ _ (examined-again x d) ∙ refuse-no _ 12 v (lt-leb (getD (t .times) v 0) c less))
-    ∙ ap (λ (u : Drawing). record { answer = frame u; left = u }) (unstretch-one (x .inside) back on)
+    settle-none Refused t (frame (back L P R rule t work v c)) (backSheet L P R rule t work v c) _
+    (orElse-second _ _ (free-again x (record { drawn = d; held = sound .held }) (f .free))
+    ∙ refuse-no _ 12 v (lt-leb (getD (t .drawing .times) v 0) c less))
+    ∙ ap (λ (u : Drawing). record { answer = frame u; left = sheetOf u (s .held) })
+    (unstretch-one (x .inside) again forth)
 
-module _ (L : Limits) (P R : List ℕ) (rule : Rule) (s : Drawing) (work v : ℕ) where
-  -- by cases on refusals 1 to 10: with a refusal nothing is to be shown
-  examine : (tail : Option Refusal) (new : Drawing) → (Examined L P R rule s work v → (tail ≡ none) × (new ≡ s))
-      → redrawn (stretchFault L P R rule s work v orElse tail) s new ≡ redrawn (stretchFault L P R rule s work v) s s
+pub shorten-undoes : (L : Limits) (P R : List ℕ) (rule : Rule) (s : Sheet) (work v c w h : ℕ) (t : Sheet)
+    → lengthen L P R rule s work v c ≡ record { answer = Frame w h; left = t }
+    → shorten L P R rule t work v c ≡ record { answer = frame (s .drawing); left = s }
+unfolding lengthen
+shorten-undoes L P R rule s work v c w h t e =
+    let own = tooFar L P R rule s work v c in
+    let f =
+    settled s (onSheet L P R rule s work v c) (frame (on L P R rule s work v c))
+    (stretchFault L P R rule s work v orElse own) e in
+    let parts = orElse-none (stretchFault L P R rule s work v) own (f .0) in
+    subst (λ u. shorten L P R rule u work v c ≡ record { answer = frame (s .drawing); left = s }) (f .1)
+    (undone L P R rule s work v c (free L P R rule s work v (parts .0)) (refuse-none _ (L .far) v (parts .1)))
+
+module _ (L : Limits) (P R : List ℕ) (rule : Rule) (s : Sheet) (work v : ℕ) where
+  -- by cases on refusals 1 to 10 and 22: with a refusal nothing is to be shown
+  examine : (tail : Option Refusal) (new : Drawing)
+      → (Examined L P R rule s work v → (tail ≡ none) × (new ≡ s .drawing))
+      → redrawn (stretchFault L P R rule s work v orElse tail) s (sheetOf new (s .held))
+      ≡ redrawn (stretchFault L P R rule s work v) s s
   examine tail new same = go (stretchFault L P R rule s work v) refl
     where
-      go : (f : Option Refusal) → stretchFault L P R rule s work v ≡ f → redrawn (f orElse tail) s new ≡ redrawn f s s
+      go : (f : Option Refusal) → stretchFault L P R rule s work v ≡ f
+          → redrawn (f orElse tail) s (sheetOf new (s .held)) ≡ redrawn f s s
       go (some r) e = refl
       go none e =
-          let both = same (examined L P R rule s work v e) in
-          ap₂ (λ o u. redrawn o s u) (both .0) (both .1)
+          let both = same (free L P R rule s work v e .examined) in
+          ap₂ (λ o u. redrawn o s (sheetOf u (s .held))) (both .0) (both .1)
 
   pub lengthen-0 : lengthen L P R rule s work v 0 ≡ redrawn (stretchFault L P R rule s work v) s s
   unfolding lengthen
   lengthen-0 =
-      examine (tooFar L P R rule s work v 0) (longer P R rule s v 0)
-      (λ x. let same : longer P R rule s v 0 ≡ s =
-      stretch-one (x .inside) (longer-stretch (x .inspected .drawn) (x .inside)) (stretch-0 (x .inspected .drawn)) in (
-        refuse-no _ (L .far) v (no-beyond (L .place) (length P) (longer P R rule s v 0)
+      examine (tooFar L P R rule s work v 0) (on L P R rule s work v 0)
+      (λ x.
+      let drawn = x .inspected .sound .drawn in
+      let same : on L P R rule s work v 0 ≡ s .drawing =
+      stretch-one (x .inside) (longer-stretch drawn (x .inside)) (stretch-0 drawn) in (
+        refuse-no _ (L .far) v (no-beyond (L .place) (length P) (on L P R rule s work v 0)
             (subst⁻¹ (λ u. (z : ℕ) → z < length P → (getD (u .x) z 0 ≤ L .place) × (getD (u .y) z 0 ≤ L .place)) same
-            (λ z l. (x .inspected .drawn .x .within z l, x .inspected .drawn .y .within z l)))),
+            (λ z l. (drawn .x .within z l, drawn .y .within z l)))),
         same,
       ))
 
   pub shorten-0 : shorten L P R rule s work v 0 ≡ redrawn (stretchFault L P R rule s work v) s s
   unfolding shorten
   shorten-0 =
-      examine (tooShort L P R rule s work v 0) (shorter P R rule s v 0)
-      (λ x. (
-        refuse-no _ 12 v (lt-leb (getD (s .times) v 0) 0 (x .inspected .drawn .some v (x .inside))),
-        unstretch-one (x .inside) (shorter-stretch (x .inspected .accepting .tree) (x .above) (x .inside)
-            (x .inspected .drawn)
-            (omega arith)) (stretch-0 (x .inspected .drawn)),
+      examine (tooShort L P R rule s work v 0) (back L P R rule s work v 0)
+      (λ x. let drawn = x .inspected .sound .drawn in (
+        refuse-no _ 12 v (lt-leb (getD (s .drawing .times) v 0) 0 (drawn .some v (x .inside))),
+        unstretch-one (x .inside)
+            (shorter-stretch (x .inspected .accepting .tree) (x .above) (x .inside) drawn (omega arith))
+            (stretch-0 drawn),
       ))

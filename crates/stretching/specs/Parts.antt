@@ -3,10 +3,12 @@
 --   by longer a d          == a and d more, or d less
 --   placedFrom limit X p v step == v's place is that of p and `step` more, and within the limit
 --   rootFits s             == the root has times 1 and place (0, 0)
---   misfit limit .. v      == refusal 8 applies to v
---   AllFit limit .. r      == r says whether refusal 8 applies to no node
---   Inspecting L .. r      == the answer r is refusals 1 to 8 of a call on the drawing s
+--   misfit limit .. v      == times or place of v is wrong
+--   AllFit limit .. r      == r says whether it applies to no node
+--   misheld held v         == v's entry of held is wrong
+--   Inspecting L .. r      == the answer r is refusals 1 to 8 of a call on the sheet s
 --   Examining L .. r       == refusals 1 to 10
+--   Unheld L .. r          == refusals 1 to 10 and 22
 --   Passes limit P X v d r == r says whether a place of v's subtree is beyond the limit when it is moved on by d
 --   Movable P X v d longer == v's subtree can be moved on, or back, by d
 --   Stretchable ..         == v's edge can be made longer, or shorter
@@ -23,9 +25,9 @@ use Rattle.table.specs.Parts.{Tested}
 use Rattle.table.specs.Table.{under}
 use Rattle.slopes.specs.declared.Rule.{Rule}
 use Rattle.slopes.specs.Slopes.{acrossOf, upOf, edge}
-use Rattle.drawing.specs.Drawing.{Drawing, lengthsFit, nodeFits, drawingFault}
-use Rattle.drawing.specs.Parts.{Sized}
-use Rattle.stretching.specs.Stretching.{stretchFault}
+use Rattle.drawing.specs.Drawing.{Drawing, Sheet, lengthsFit, nodeFits, heldFits, sheetFault}
+use Rattle.drawing.specs.Parts.{SizedSheet}
+use Rattle.stretching.specs.Stretching.{lotFault, stretchFault}
 
 abbrev pub by : Bool → ℕ → ℕ → ℕ
 by true a d = a + d
@@ -44,12 +46,18 @@ pub record AllFit (limit : ℕ) (P R : List ℕ) (rule : Rule) (s : Drawing) (r 
   pub yes : r ≡ true → (v : ℕ) → v < length P → nodeFits limit P R rule s v ≡ true
   pub no : r ≡ false → (v : ℕ) × (v < length P) × (nodeFits limit P R rule s v ≡ false)
 
-module _ (L : Limits) (P R : List ℕ) (rule : Rule) (s : Drawing) (W : List ℕ) where
+abbrev pub misheld : List ℕ → ℕ → Bool
+misheld held v = not (heldFits held v)
+
+module _ (L : Limits) (P R : List ℕ) (rule : Rule) (s : Sheet) (W : List ℕ) where
   abbrev pub Inspecting : List ℕ → Validity → Type 0
-  Inspecting X = Tested L P R (lengthsFit P s) W X (drawingFault L P R rule s (length W)) (Sized P R s X)
+  Inspecting X = Tested L P R (lengthsFit P s) W X (sheetFault L P R rule s (length W)) (SizedSheet P R s X)
 
   abbrev pub Examining : ℕ → List ℕ → Validity → Type 0
-  Examining v X = Tested L P R (lengthsFit P s) W X (stretchFault L P R rule s (length W) v) (Sized P R s X)
+  Examining v X = Tested L P R (lengthsFit P s) W X (lotFault L P R rule s (length W) v) (SizedSheet P R s X)
+
+  abbrev pub Unheld : ℕ → List ℕ → Validity → Type 0
+  Unheld v X = Tested L P R (lengthsFit P s) W X (stretchFault L P R rule s (length W) v) (SizedSheet P R s X)
 
 pub record Passes (limit : ℕ) (P X : List ℕ) (v d : ℕ) (r : Bool) : Type 0 where
   pub yes : r ≡ true → (z : ℕ) × (z < length P) × (under P v z ≡ true) × (limit < getD X z 0 + d)

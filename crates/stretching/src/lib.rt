@@ -1,4 +1,4 @@
-// Lengthen and shorten (document 01, "Layout, lengthen, shorten").
+// Lengthen and shorten (document 01, "Layout, lengthen, shorten"; held edges: document 02, request 108).
 //
 // Both are one move with a sign: `longer` says which.
 use drawing::Framed;
@@ -17,19 +17,19 @@ use table::node_at;
 use table::put;
 ghost use mathlib.Core.Bool.{true, false};
 ghost use mathlib.Core.Path.{_≡_};
-ghost use Prim.Native.Nat.{_+_, _*_, _^_, _≤_, _<_};
+ghost use Prim.Native.Nat.{_+_, _*_, _^_, _≤_, _<_, min};
 ghost use lib.ListN.{length};
 ghost use Rattle.laws.specs.Search.{least};
 ghost use Rattle.table.specs.Numbering.{NumberedTree};
 ghost use Rattle.table.specs.Table.{large};
 ghost use Rattle.slopes.specs.Slopes.{edge};
-ghost use Rattle.drawing.specs.Drawing.{lent, nodeFits, drawing, Does};
+ghost use Rattle.drawing.specs.Drawing.{lent, nodeFits, drawing, sheet, Does};
 ghost use Rattle.drawing.specs.DrawingLaws.{Drawn};
 ghost use Rattle.drawing.specs.Parts.{FramesFit, Sized};
 ghost use Rattle.stretching.specs.Stretching.{moved, stretched, beyond, lengthen, shorten};
 ghost use Rattle.stretching.specs.StretchLaws.{longer};
-ghost use Rattle.stretching.specs.Parts.{by, placedFrom, rootFits, misfit, AllFit, Inspecting, Examining};
-ghost use Rattle.stretching.specs.Parts.{Passes, Movable, Stretchable};
+ghost use Rattle.stretching.specs.Parts.{by, placedFrom, rootFits, misfit, AllFit, misheld, Inspecting, Examining};
+ghost use Rattle.stretching.specs.Parts.{Unheld, Passes, Movable, Stretchable};
 
 // Whether v is at its parent's place p and `step` more, and within the limit.
 fn placed(limit: usize, places: &[u32], p: usize, v: usize, step: usize) -> bool
@@ -196,7 +196,33 @@ fn first_misfit(
     }
 }
 
-// Refusals 1 to 8 of a call on a drawing; an accepted table is numbered.
+// The smaller of two numbers.
+fn smaller(a: usize, b: usize) -> usize
+    ensures { λ r. ⌜ r ≡ min a b ⌝ }
+{
+    if b < a { b } else { a }
+}
+
+// The smallest node whose entry of held is wrong, or n.
+fn first_misheld(held: &[u32]) -> usize
+    requires { ⌜ 0 < length (now held) ⌝ }
+    ensures { λ r. ⌜ r ≡ least (misheld (now (held .entry))) (length (now (held .entry))) ⌝ }
+{
+    let n = held.len();
+    if get(held, 0) != 0 {
+        return 0;
+    }
+    let mut v = 1;
+    while v < n {
+        if 1 < get(held, v) {
+            return v;
+        }
+        v += 1;
+    }
+    n
+}
+
+// Refusals 1 to 8 of a call on a sheet; an accepted table is numbered.
 pub fn inspect(
     limits: Limits,
     rule: Rule,
@@ -205,18 +231,20 @@ pub fn inspect(
     times: &[u32],
     x: &[u32],
     y: &[u32],
+    held: &[u32],
     work: &mut [u32],
 ) -> Validity
     ensures { λ r. ⌜ Inspecting limits (now (parent .entry)) (now (rank .entry)) rule
-        (drawing times x y .entry) (now (work .entry)) (now (work .exit)) r ⌝ }
+        (sheet times x y held .entry) (now (work .entry)) (now (work .exit)) r ⌝ }
 {
     let n = parent.len();
     let place = limits.place as usize;
-    let valid = prepare(limits, parent, rank, times, x, y, work);
+    let valid = prepare(limits, parent, rank, times, x, y, held, work);
     match valid {
         Validity::Refused(k, v) => Validity::Refused(k, v),
         Validity::Accepted => {
-            let v = first_misfit(place, rule, parent, rank, times, x, y, work);
+            let u = first_misfit(place, rule, parent, rank, times, x, y, work);
+            let v = smaller(u, first_misheld(held));
             if v < n {
                 return Validity::Refused(8, v as u32);
             }
@@ -226,7 +254,7 @@ pub fn inspect(
 }
 
 // Refusals 1 to 10 of a call on the edge of `lot`; an accepted table is numbered.
-fn examine(
+pub fn examine(
     limits: Limits,
     rule: Rule,
     parent: &[u32],
@@ -234,14 +262,15 @@ fn examine(
     times: &[u32],
     x: &[u32],
     y: &[u32],
+    held: &[u32],
     work: &mut [u32],
     lot: u32,
 ) -> Validity
     ensures { λ r. ⌜ Examining limits (now (parent .entry)) (now (rank .entry)) rule
-        (drawing times x y .entry) (now (work .entry)) lot (now (work .exit)) r ⌝ }
+        (sheet times x y held .entry) (now (work .entry)) lot (now (work .exit)) r ⌝ }
 {
     let n = parent.len();
-    let valid = inspect(limits, rule, parent, rank, times, x, y, work);
+    let valid = inspect(limits, rule, parent, rank, times, x, y, held, work);
     match valid {
         Validity::Refused(k, v) => Validity::Refused(k, v),
         Validity::Accepted => {
@@ -250,6 +279,34 @@ fn examine(
             }
             if lot == 0 {
                 return Validity::Refused(10, 0);
+            }
+            Validity::Accepted
+        }
+    }
+}
+
+// Refusals 1 to 10, then 22, of a call that stretches the edge of `lot`; an accepted table is numbered.
+fn examine_free(
+    limits: Limits,
+    rule: Rule,
+    parent: &[u32],
+    rank: &[u32],
+    times: &[u32],
+    x: &[u32],
+    y: &[u32],
+    held: &[u32],
+    work: &mut [u32],
+    lot: u32,
+) -> Validity
+    ensures { λ r. ⌜ Unheld limits (now (parent .entry)) (now (rank .entry)) rule
+        (sheet times x y held .entry) (now (work .entry)) lot (now (work .exit)) r ⌝ }
+{
+    let valid = examine(limits, rule, parent, rank, times, x, y, held, work, lot);
+    match valid {
+        Validity::Refused(k, v) => Validity::Refused(k, v),
+        Validity::Accepted => {
+            if get(held, lot as usize) == 1 {
+                return Validity::Refused(22, lot);
             }
             Validity::Accepted
         }
@@ -371,16 +428,17 @@ pub fn lengthen_within(
     times: &mut [u32],
     x: &mut [u32],
     y: &mut [u32],
+    held: &[u32],
     work: &mut [u32],
     lot: u32,
     count: u32,
 ) -> Framed
     requires { ⌜ FramesFit limits ⌝ }
-    ensures { λ r. ⌜ Does limits parent rank (drawing times x y) work
+    ensures { λ r. ⌜ Does limits parent rank (sheet times x y held) work
         (λ P R s m. lengthen limits P R rule s m lot count) r ⌝ }
 {
     let place = limits.place as usize;
-    let verdict = examine(limits, rule, parent, rank, times, x, y, work, lot);
+    let verdict = examine_free(limits, rule, parent, rank, times, x, y, held, work, lot);
     match verdict {
         Validity::Refused(k, v) => Framed::Refused(k, v),
         Validity::Accepted => {
@@ -404,15 +462,16 @@ pub fn shorten_within(
     times: &mut [u32],
     x: &mut [u32],
     y: &mut [u32],
+    held: &[u32],
     work: &mut [u32],
     lot: u32,
     count: u32,
 ) -> Framed
     requires { ⌜ FramesFit limits ⌝ }
-    ensures { λ r. ⌜ Does limits parent rank (drawing times x y) work
+    ensures { λ r. ⌜ Does limits parent rank (sheet times x y held) work
         (λ P R s m. shorten limits P R rule s m lot count) r ⌝ }
 {
-    let verdict = examine(limits, rule, parent, rank, times, x, y, work, lot);
+    let verdict = examine_free(limits, rule, parent, rank, times, x, y, held, work, lot);
     match verdict {
         Validity::Refused(k, v) => Framed::Refused(k, v),
         Validity::Accepted => {
@@ -427,7 +486,7 @@ pub fn shorten_within(
 }
 
 // Makes the edge of `lot` longer by `count` times its slope, moves the lot's subtree along and returns the frame; on a
-// refusal the drawing stays as it was.
+// refusal the sheet stays as it was.
 pub fn lengthen(
     rule: Rule,
     parent: &[u32],
@@ -435,19 +494,20 @@ pub fn lengthen(
     times: &mut [u32],
     x: &mut [u32],
     y: &mut [u32],
+    held: &[u32],
     work: &mut [u32],
     lot: u32,
     count: u32,
 ) -> Framed
-    ensures { λ r. ⌜ Does large parent rank (drawing times x y) work
+    ensures { λ r. ⌜ Does large parent rank (sheet times x y held) work
         (λ P R s m. lengthen large P R rule s m lot count) r ⌝ }
 {
     let limits = large_limits();
-    lengthen_within(limits, rule, parent, rank, times, x, y, work, lot, count)
+    lengthen_within(limits, rule, parent, rank, times, x, y, held, work, lot, count)
 }
 
 // Makes the edge of `lot` shorter by `count` times its slope, moves the lot's subtree back and returns the frame; on a
-// refusal the drawing stays as it was.
+// refusal the sheet stays as it was.
 pub fn shorten(
     rule: Rule,
     parent: &[u32],
@@ -455,13 +515,14 @@ pub fn shorten(
     times: &mut [u32],
     x: &mut [u32],
     y: &mut [u32],
+    held: &[u32],
     work: &mut [u32],
     lot: u32,
     count: u32,
 ) -> Framed
-    ensures { λ r. ⌜ Does large parent rank (drawing times x y) work
+    ensures { λ r. ⌜ Does large parent rank (sheet times x y held) work
         (λ P R s m. shorten large P R rule s m lot count) r ⌝ }
 {
     let limits = large_limits();
-    shorten_within(limits, rule, parent, rank, times, x, y, work, lot, count)
+    shorten_within(limits, rule, parent, rank, times, x, y, held, work, lot, count)
 }

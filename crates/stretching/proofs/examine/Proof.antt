@@ -1,6 +1,6 @@
 -- Refusals 1 to 8, then 9 and 10.
 use borrow.Author.Needs.{needs}
-use Rattle.stretching.proofs.Examining.{examining-drawing, examining-9, examining-10, examining-all}
+use Rattle.stretching.proofs.Examining.{examining-sheet, examining-9, examining-10, examining-all}
 use Rattle.stretching.proofs.examine.Statement.{statement}
 use Rattle.stretching.proofs.examine.Tie as tie
 
@@ -24,7 +24,7 @@ returns-2 c =
 returns-3 : tie.Need-returns-3
 returns-3 c =
     let refused = c .before in
-    examining-drawing _ (refused .before .before .before .before .inspect .ensures) _ (refused .valid .given .1)
+    examining-sheet _ (refused .before .before .before .before .inspect .ensures) _ (refused .valid .given .1)
 
 returns-4 : tie.Need-returns-4
 returns-4 c =

@@ -1,16 +1,16 @@
--- Refusals 1 to 10, then 12, then the shorter drawing.
+-- Refusals 1 to 10 and 22, then 12, then the shorter drawing.
 use native.Mathlib.Omega.{arith}
 use borrow.Author.Needs.{needs}
 use Rattle.drawing.specs.Parts.{framable}
 use Rattle.stretching.proofs.Outcomes.{examined-of, shortened-refused, shortened-12, can-shorten}
-use Rattle.stretching.proofs.Outcomes.{shorter-drawn, shortened}
+use Rattle.stretching.proofs.Outcomes.{new-shorter, shortened}
 use Rattle.stretching.proofs.shorten_within.Statement.{statement}
 use Rattle.stretching.proofs.shorten_within.Tie as tie
 
-abbrev called : tie.After-examine → tie.Start
-called c = c .before .before .before .before .before .before .before .before .before .before .before
+abbrev called : tie.After-examine-free → tie.Start
+called c = c .before .before .before .before .before .before .before .before .before .before .before .before
 
-abbrev examined : tie.After-enum-told → tie.After-examine
+abbrev examined : tie.After-enum-told → tie.After-examine-free
 examined c = c .before .before .before .before
 
 abbrev told : tie.After-get → tie.After-enum-told
@@ -22,22 +22,22 @@ tested c = c .before .before .before .before .before
 get-requires : tie.Need-get-requires
 get-requires c κs =
     let accepted = c .before in
-    let x = examined-of _ _ (examined accepted .examine .ensures) (accepted .enum-told .given .1) in
+    let x = examined-of _ _ (examined accepted .examine-free .ensures) (accepted .enum-told .given .1) in
     let inside = x .inside in
-    let long = x .inspected .drawn .long in
+    let long = x .inspected .sound .drawn .long in
     omega arith
 
 returns : tie.Need-returns
 returns c =
     let times = c .before in
-    shortened-12 _ _ (examined (told times) .examine .ensures) _ (told times .enum-told .given .1)
+    shortened-12 _ _ (examined (told times) .examine-free .ensures) _ (told times .enum-told .given .1)
     (times .get .ensures .0) (c .if1 .taken)
 
 stretch-requires : tie.Need-stretch-requires
 stretch-requires c κs =
     let more = c .before .before .before .before in
     let times = more .before in
-    can-shorten _ _ (examined (told times) .examine .ensures) _ (told times .enum-told .given .1)
+    can-shorten _ _ (examined (told times) .examine-free .ensures) _ (told times .enum-told .given .1)
     (times .get .ensures .0) (more .if1 .left)
 
 frame-of-requires : tie.Need-frame-of-requires
@@ -47,21 +47,21 @@ frame-of-requires c κs =
     let times = more .before in
     let exam = examined (told times) in
     framable (called exam .pre)
-    (shorter-drawn _ _ (exam .examine .ensures) _ (told times .enum-told .given .1) (times .get .ensures .0)
+    (new-shorter _ _ (exam .examine-free .ensures) _ (told times .enum-told .given .1) (times .get .ensures .0)
     (more .if1 .left))
     (new .stretch .ensures)
 
 returns-2 : tie.Need-returns-2
 returns-2 c =
     let refused = c .before in
-    shortened-refused _ _ (refused .before .before .before .before .examine .ensures) _ (refused .verdict .given .1)
+    shortened-refused _ _ (refused .before .before .before .before .examine-free .ensures) _ (refused .verdict .given .1)
 
 returns-3 : tie.Need-returns-3
 returns-3 c =
     let new = c .before .before .before .before .before .before .before .before .before in
     let more = tested new in
     let times = more .before in
-    shortened _ _ (examined (told times) .examine .ensures) _ (told times .enum-told .given .1)
+    shortened _ _ (examined (told times) .examine-free .ensures) _ (told times .enum-told .given .1)
     (times .get .ensures .0) (more .if1 .left) (new .stretch .ensures) (c .frame-of .ensures _)
 
 pub shorten-within-spec : {M : Type 1} → statement M
