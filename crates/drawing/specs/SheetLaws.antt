@@ -73,7 +73,7 @@ module _ (held : List ℕ) where
             (λ ne. leb-true (getD held v 0) 1 (sym (held-node v (omega arith)) ∙ all v l));
       }
 
-  held-fits : {P : List ℕ} → Held P held → (v : ℕ) → v < length P → heldFits held v ≡ true
+  pub held-fits : {P : List ℕ} → Held P held → (v : ℕ) → v < length P → heldFits held v ≡ true
   held-fits h v l =
       by-eq v 0
       (λ e. subst⁻¹ (λ z. heldFits held z ≡ true) e (held-root ∙ le-leb (getD held 0 0) 0 (omega (arith, h .root))))

@@ -11,12 +11,12 @@ use borrow.Author.Tests.{lt-leb, le-leb, eqb-true}
 use Rattle.laws.specs.Search.{least}
 use Rattle.laws.specs.SearchLaws.{least-is}
 use Rattle.laws.specs.Tests.{by-test, by-eq, differ}
-use Rattle.table.specs.Numbering.{numbering, root-last, NumberedTree, Numbers}
+use Rattle.table.specs.Numbering.{numbering, root-last, Numbers}
 use Rattle.table.specs.Table.{parent, postNumber}
 use Rattle.table.specs.TableLaws.{Tree}
 use Rattle.slopes.specs.declared.Rule.{Rule}
 use Rattle.slopes.specs.declared.Slope.{Slope}
-use Rattle.slopes.specs.Slopes.{acrossOf, upOf, slopeAt, edge}
+use Rattle.slopes.specs.Slopes.{acrossOf, upOf, edge}
 use Rattle.drawing.specs.Drawing.{Drawing, placed, nodeFits}
 use Rattle.drawing.specs.DrawingLaws.{bothPlaced, placed-root, placed-node, fits-root, fits-node}
 use Rattle.drawing.specs.SheetLaws.{held-root, held-node}

@@ -188,7 +188,8 @@ module _ {L : Limits} {P R : List ℕ} (rule : Rule) {s : Sheet} {W : List ℕ} 
       unfolding lengthen
       lengthened e f = renewed ok _ on (refuse-no _ (L .far) v (sym e ∙ f))
 
-      pub shortened-12 : {n : ℕ} → n ≡ getD (s .drawing .times) v 0 → n ≤ c → Shortened (s .drawing) (framed.Refused 12 v)
+      pub shortened-12 : {n : ℕ} → n ≡ getD (s .drawing .times) v 0 → n ≤ c
+          → Shortened (s .drawing) (framed.Refused 12 v)
       unfolding shorten
       shortened-12 e h =
           own-refused ok _ back
@@ -227,7 +228,8 @@ module _ {L : Limits} {P R : List ℕ} (rule : Rule) {s : Sheet} {W : List ℕ} 
             y = movable-on (m .y) (omega arith) (d .y .within);
           }
 
-      pub can-shorten : {n : ℕ} → n ≡ getD (s .drawing .times) v 0 → c < n → Stretchable P R rule (s .drawing) X v c false
+      pub can-shorten : {n : ℕ} → n ≡ getD (s .drawing .times) v 0 → c < n
+          → Stretchable P R rule (s .drawing) X v c false
       can-shorten e h =
           let x = examined-of ok in
           let less : c ≤ getD (s .drawing .times) v 0 = omega arith in

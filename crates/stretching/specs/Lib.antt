@@ -1,4 +1,5 @@
 pub mod Stretching
 pub mod StretchLaws
 pub mod CallLaws
+pub mod HeldLaws
 pub mod Parts

@@ -28,8 +28,8 @@ ghost use Rattle.drawing.specs.DrawingLaws.{Drawn};
 ghost use Rattle.drawing.specs.Parts.{FramesFit, Sized};
 ghost use Rattle.stretching.specs.Stretching.{moved, stretched, beyond, lengthen, shorten};
 ghost use Rattle.stretching.specs.StretchLaws.{longer};
-ghost use Rattle.stretching.specs.Parts.{by, placedFrom, rootFits, misfit, AllFit, misheld, Inspecting, Examining};
-ghost use Rattle.stretching.specs.Parts.{Unheld, Passes, Movable, Stretchable};
+ghost use Rattle.stretching.specs.Parts.{by, placedFrom, rootFits, misfit, AllFit, misheld, Inspecting};
+ghost use Rattle.stretching.specs.Parts.{Examining, Unheld, Passes, Movable, Stretchable};
 
 // Whether v is at its parent's place p and `step` more, and within the limit.
 fn placed(limit: usize, places: &[u32], p: usize, v: usize, step: usize) -> bool
@@ -212,12 +212,12 @@ fn first_misheld(held: &[u32]) -> usize
     if get(held, 0) != 0 {
         return 0;
     }
-    let mut v = 1;
-    while v < n {
-        if 1 < get(held, v) {
-            return v;
+    let mut z = 1;
+    while z < n {
+        if 1 < get(held, z) {
+            return z;
         }
-        v += 1;
+        z += 1;
     }
     n
 }
@@ -503,7 +503,19 @@ pub fn lengthen(
         (λ P R s m. lengthen large P R rule s m lot count) r ⌝ }
 {
     let limits = large_limits();
-    lengthen_within(limits, rule, parent, rank, times, x, y, held, work, lot, count)
+    lengthen_within(
+        limits,
+        rule,
+        parent,
+        rank,
+        times,
+        x,
+        y,
+        held,
+        work,
+        lot,
+        count,
+    )
 }
 
 // Makes the edge of `lot` shorter by `count` times its slope, moves the lot's subtree back and returns the frame; on a
@@ -524,5 +536,17 @@ pub fn shorten(
         (λ P R s m. shorten large P R rule s m lot count) r ⌝ }
 {
     let limits = large_limits();
-    shorten_within(limits, rule, parent, rank, times, x, y, held, work, lot, count)
+    shorten_within(
+        limits,
+        rule,
+        parent,
+        rank,
+        times,
+        x,
+        y,
+        held,
+        work,
+        lot,
+        count,
+    )
 }

@@ -1,4 +1,4 @@
--- No entry below v is wrong.
+-- No entry below z is wrong.
 use mathlib.Core.Bool.{false}
 use mathlib.Core.Path.{_≡_}
 use Prim.Native.Nat.{ℕ, _-_, _≤_, _<_}
@@ -12,18 +12,22 @@ use Rattle.stretching.proofs.first_misheld.Statement.{statement}
 use Rattle.stretching.proofs.first_misheld.Tie as tie
 
 abbrev Inv-loop : tie.InvT-loop
-Inv-loop held n v₀ v = (1 ≤ v) × (v ≤ length held) × ((k : ℕ) → k < v → misheld held k ≡ false)
+Inv-loop held n z₀ z = (1 ≤ z) × (z ≤ length held) × ((k : ℕ) → k < z → misheld held k ≡ false)
 
 abbrev μ-loop : tie.MeasureT-loop
-μ-loop held n v₀ v = length held - v
+μ-loop held n z₀ z = length held - z
 
 returns : tie.Need-returns Inv-loop μ-loop
 returns c =
-    least-is _ _ _ (omega arith) (λ k l. absurd (omega arith)) (λ l. root-misheld _ (c .before .get .ensures .0) (c .if1 .taken))
+    least-is _ _ _ (omega arith) (λ k l. absurd (omega arith))
+    (λ l. root-misheld _ (c .before .get .ensures .0) (c .if1 .taken))
 
 loop-holds : tie.Need-loop-holds Inv-loop μ-loop
-loop-holds c =
-    (omega arith, omega arith, below-more _ 0 (below-none _) (root-unheld _ (c .before .get .ensures .0) (c .if1 .left)))
+loop-holds c = (
+  omega arith,
+  omega arith,
+  below-more _ 0 (below-none _) (root-unheld _ (c .before .get .ensures .0) (c .if1 .left)),
+)
 
 returns-2 : tie.Need-returns-2 Inv-loop μ-loop
 returns-2 c =
@@ -35,9 +39,12 @@ returns-2 c =
 loop-again : tie.Need-loop-again Inv-loop μ-loop
 loop-again c =
     let read = c .before in
-    let turn = read .before .before .loop in
-    (omega arith, omega arith, below-more _ _ (turn .inv .2)
-    (node-well _ _ (turn .inv .0) (read .get2 .ensures .0) (c .if2 .left)))
+    let turn = read .before .before .loop in (
+      omega arith,
+      omega arith,
+      below-more _ _ (turn .inv .2)
+          (node-well _ _ (turn .inv .0) (read .get2 .ensures .0) (c .if2 .left)),
+    )
 
 returns-3 : tie.Need-returns-3 Inv-loop μ-loop
 returns-3 c = least-is _ _ _ (omega arith) (λ k l. c .before .loop .inv .2 k (omega arith)) (λ l. absurd (omega arith))

@@ -53,15 +53,16 @@ frame-of-requires c κs =
 returns-2 : tie.Need-returns-2
 returns-2 c =
     let refused = c .before in
-    lengthened-refused _ _ (refused .before .before .before .before .examine-free .ensures) _ (refused .verdict .given .1)
+    lengthened-refused _ _ (refused .before .before .before .before .examine-free .ensures) _
+    (refused .verdict .given .1)
 
 returns-3 : tie.Need-returns-3
 returns-3 c =
     let new = c .before .before .before .before .before .before .before .before .before in
     let near = tested new in
     let far = near .before in
-    lengthened _ _ (examined (told far) .examine-free .ensures) _ (told far .enum-told .given .1) (far .too-far .ensures)
-    (near .if1 .left) (new .stretch .ensures) (c .frame-of .ensures _)
+    lengthened _ _ (examined (told far) .examine-free .ensures) _ (told far .enum-told .given .1)
+    (far .too-far .ensures) (near .if1 .left) (new .stretch .ensures) (c .frame-of .ensures _)
 
 pub lengthen-within-spec : {M : Type 1} → statement M
 lengthen-within-spec = tie.close (tie.spec (λ c. search needs) (λ c κs. search needs) (λ c. search needs)

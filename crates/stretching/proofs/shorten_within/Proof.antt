@@ -54,7 +54,8 @@ frame-of-requires c κs =
 returns-2 : tie.Need-returns-2
 returns-2 c =
     let refused = c .before in
-    shortened-refused _ _ (refused .before .before .before .before .examine-free .ensures) _ (refused .verdict .given .1)
+    shortened-refused _ _ (refused .before .before .before .before .examine-free .ensures) _
+    (refused .verdict .given .1)
 
 returns-3 : tie.Need-returns-3
 returns-3 c =
