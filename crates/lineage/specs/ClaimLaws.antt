@@ -1,10 +1,11 @@
--- Demand 3, proved: any list of calls leaves a drawing whose times are 1 + added - taken, and of a drawing all the rest
--- follows.
+-- Demand 3, proved: any list of calls leaves a sheet whose times are 1 + added - taken and on which held edges kept
+-- theirs, and of its drawing all the rest follows.
 --
 --   LimitsFit L   == fresh drawings fit the limits L, which are within those of direction and of the check
+--   run-append    == a list of calls after another
 --   demand-3      == the claim at the large limits
 use mathlib.Core.Bool.{Bool, true, false, cond}
-use mathlib.Core.List.{List, [], _∷_}
+use mathlib.Core.List.{List, [], _∷_, _++_}
 use mathlib.Core.Logic.{⊎-elim, _↔_}
 use mathlib.Core.Option.{none, some}
 use mathlib.Core.Path.{_≡_, refl, sym, ap, subst⁻¹, _∙_}
@@ -17,7 +18,8 @@ use lib.ListN.{length, getD}
 use borrow.Author.Tests.{eq-eqb, ne-eqb, le-ltb}
 use Rattle.laws.specs.Refusals.{orElse-second, orElse-none, refuseLeast-no}
 use Rattle.laws.specs.SearchLaws.{least-is}
-use Rattle.laws.specs.Tests.{by-eq, neither-is}
+use Rattle.laws.specs.Search.{Outcome}
+use Rattle.laws.specs.Tests.{by-eq, differ, neither-is}
 use Rattle.table.specs.Acceptance.{shape-fits, accepting}
 use Rattle.table.specs.declared.Limits.{Limits}
 use Rattle.table.specs.Paths.{PathRises}
@@ -26,14 +28,18 @@ use Rattle.table.specs.TableLaws.{Tree}
 use Rattle.slopes.specs.declared.Rule.{Rule}
 use Rattle.slopes.specs.declared.Slope.{Slope}
 use Rattle.slopes.specs.Slopes.{acrossOf, upOf, edge}
-use Rattle.drawing.specs.CallLaws.{settled, layout-drawn}
+use Rattle.drawing.specs.CallLaws.{settled, layout-sound}
+use Rattle.drawing.specs.declared.Framed.{Framed}
 use Rattle.drawing.specs.declared.Framed.the-variants.{Frame}
-use Rattle.drawing.specs.Drawing.{Drawing, lengthsFit, frame, pathSum, fresh, layout}
-use Rattle.drawing.specs.DrawingLaws.{Coordinate, Drawn, stepOf}
+use Rattle.drawing.specs.Drawing.{Drawing, Sheet, lengthsFit, frame, pathSum, fresh, freshSheet, layout}
+use Rattle.drawing.specs.DrawingLaws.{Coordinate, stepOf}
 use Rattle.drawing.specs.FreshLaws.{Roomy, large-roomy, fresh-once}
 use Rattle.drawing.specs.PathLaws.{adds-path, path-cong}
+use Rattle.drawing.specs.SheetLaws.{Sound}
 use Rattle.stretching.specs.CallLaws.{Untouched, Stretching, lengthen-does, shorten-does}
-use Rattle.stretching.specs.Stretching.{lengthen, shorten}
+use Rattle.stretching.specs.Stretching.{isHeld, lengthen, shorten}
+use Rattle.holding.specs.Holding.{entry, hold}
+use Rattle.holding.specs.HoldLaws.{Marking, hold-does, held-here, held-others}
 use Rattle.direction.specs.declared.Heading.the-variants.{Along}
 use Rattle.direction.specs.Direction.{direction}
 use Rattle.direction.specs.DirectionLaws.{direction-rises, edges-apart}
@@ -41,8 +47,8 @@ use Rattle.monotone.specs.declared.Verdict.{Verdict}
 use Rattle.monotone.specs.declared.Verdict.the-variants.{Monotone}
 use Rattle.monotone.specs.Monotone.{HasDirection, placeBeyond, checkFault, Says}
 use Rattle.monotone.specs.MonotoneLaws.{says-one}
-use Rattle.lineage.specs.Claim.{Call, Lengthen, Shorten, accepted, adds, takes, make, run, total, added, taken}
-use Rattle.lineage.specs.Claim.{lengthOf, Assured, Claim}
+use Rattle.lineage.specs.Claim.{Call, Lengthen, Shorten, Hold, accepted, adds, takes, frees, make, run, total}
+use Rattle.lineage.specs.Claim.{added, taken, freed, lengthOf, Assured, Claim}
 
 pub record LimitsFit (L : Limits) : Type 0 where
   pub roomy : Roomy L
@@ -58,49 +64,72 @@ counts-here v z k e = rw (eq-eqb v z e) refl
 counts-nowhere : (v z k : ℕ) → (v ≡ z → ⊥) → cond (eqb v z) k 0 ≡ 0
 counts-nowhere v z k ne = rw (ne-eqb v z ne) refl
 
+-- a call that does not free z, and is about z, holds it
+not-freed : (on : Bool) (v z : ℕ) → v ≡ z → _≡_ {A = ℕ} (cond on 0 (cond (eqb v z) 1 0)) 0 → on ≡ true
+not-freed true v z e f = refl
+not-freed false v z e f = absurd (omega (arith, sym (counts-here v z 1 e) ∙ f))
+
 module _ (L : Limits) (P R : List ℕ) (rule : Rule) where
   -- what a call counts for z: its count if it is accepted
-  share : (Call → ℕ → ℕ) → Drawing → Call → ℕ → ℕ
+  share : (Call → ℕ → ℕ) → Sheet → Call → ℕ → ℕ
   share what s c z = cond (accepted (make L P R rule s c .answer)) (what c z) 0
 
-  record Step (s : Drawing) (c : Call) : Type 0 where
-    pub drawn : Drawn (L .place) P R rule (make L P R rule s c .left)
-    pub times : (z : ℕ) → z < length P
-        → getD (make L P R rule s c .left .times) z 0 + share takes s c z ≡ getD (s .times) z 0 + share adds s c z
+  -- z is held, and keeps its times
+  abbrev pub Keeps : Sheet → Sheet → ℕ → Type 0
+  Keeps s t z = (isHeld t z ≡ true) × (getD (t .drawing .times) z 0 ≡ getD (s .drawing .times) z 0)
 
-  refused-share : (what : Call → ℕ → ℕ) (s : Drawing) (c : Call) (z : ℕ) → Untouched s (make L P R rule s c)
+  record Step (s : Sheet) (c : Call) : Type 0 where
+    pub sound : Sound (L .place) P R rule (make L P R rule s c .left)
+    pub times : (z : ℕ) → z < length P
+        → getD (make L P R rule s c .left .drawing .times) z 0 + share takes s c z
+        ≡ getD (s .drawing .times) z 0 + share adds s c z
+    pub keeps : (z : ℕ) → z < length P → isHeld s z ≡ true → share frees s c z ≡ 0
+        → Keeps s (make L P R rule s c .left) z
+
+  refused-share : (what : Call → ℕ → ℕ) (s : Sheet) (c : Call) (z : ℕ) → Untouched s (make L P R rule s c)
       → share what s c z ≡ 0
   unfolding share accepted
   refused-share what s c z u = rw (u .answer) refl
 
-  accepted-share : (what : Call → ℕ → ℕ) (s : Drawing) (c : Call) (z : ℕ)
-      → make L P R rule s c .answer ≡ frame (make L P R rule s c .left) → share what s c z ≡ what c z
+  accepted-share : (what : Call → ℕ → ℕ) (s : Sheet) (c : Call) (z : ℕ)
+      → make L P R rule s c .answer ≡ frame (make L P R rule s c .left .drawing) → share what s c z ≡ what c z
   unfolding share accepted frame
   accepted-share what s c z e = rw e refl
 
-  untouched-step : (s : Drawing) (c : Call) → Drawn (L .place) P R rule s → Untouched s (make L P R rule s c) → Step s c
+  untouched-step : (s : Sheet) (c : Call) → Sound (L .place) P R rule s → Untouched s (make L P R rule s c) → Step s c
   untouched-step s c d u = record {
-    drawn = subst⁻¹ (Drawn (L .place) P R rule) (u .left) d;
+    sound = subst⁻¹ (Sound (L .place) P R rule) (u .left) d;
     times = λ z l. omega (
       arith,
-      ap (λ (t : Drawing). getD (t .times) z 0) (u .left),
+      ap (λ (t : Sheet). getD (t .drawing .times) z 0) (u .left),
       refused-share takes s c z u,
       refused-share adds s c z u,
     );
+    keeps = λ z l h f. subst⁻¹ (λ t. Keeps s t z) (u .left) (h, refl);
   }
 
-  step : (s : Drawing) (c : Call) → Drawn (L .place) P R rule s → Step s c
-  unfolding make adds takes
+  -- a stretched edge is free, so a held one is another
+  stretched-keeps : (s : Sheet) {v k : ℕ} {a b : Drawing} {o : Outcome Framed Sheet}
+      → Stretching L P R rule v k (s .held) a b o
+      → ((z : ℕ) → z < length P → (z ≡ v → ⊥) → getD (o .left .drawing .times) z 0 ≡ getD (s .drawing .times) z 0)
+      → (z : ℕ) → z < length P → isHeld s z ≡ true → Keeps s (o .left) z
+  stretched-keeps s m others z l h = (
+    ap (λ (H : List ℕ). eqb (getD H z 0) 1) (m .held) ∙ h,
+    others z l (λ e. differ (ap (λ (w : ℕ). isHeld s w) (sym e) ∙ h) (m .free)),
+  )
+
+  step : (s : Sheet) (c : Call) → Sound (L .place) P R rule s → Step s c
+  unfolding make adds takes frees
   step s (Lengthen v k work) d =
       ⊎-elim (untouched-step s (Lengthen v k work) d)
-      (λ (m : Stretching L P R rule v k s (lengthen L P R rule s work v k .left)
+      (λ (m : Stretching L P R rule v k (s .held) (s .drawing) (lengthen L P R rule s work v k .left .drawing)
       (lengthen L P R rule s work v k)). record {
-        drawn = m .drawn;
+        sound = m .sound;
         times = λ z l. by-eq v z
             (λ e. omega (
               arith,
-              ap (λ (y : ℕ). getD (lengthen L P R rule s work v k .left .times) y 0) e,
-              ap (λ (y : ℕ). getD (s .times) y 0) e,
+              ap (λ (y : ℕ). getD (lengthen L P R rule s work v k .left .drawing .times) y 0) e,
+              ap (λ (y : ℕ). getD (s .drawing .times) y 0) e,
               m .stretch .here,
               accepted-share takes s (Lengthen v k work) z (m .answer),
               accepted-share adds s (Lengthen v k work) z (m .answer) ∙ counts-here v z k e,
@@ -111,18 +140,19 @@ module _ (L : Limits) (P R : List ℕ) (rule : Rule) where
               accepted-share takes s (Lengthen v k work) z (m .answer),
               accepted-share adds s (Lengthen v k work) z (m .answer) ∙ counts-nowhere v z k ne,
             ));
+        keeps = λ z l h f. stretched-keeps s m (m .stretch .other) z l h;
       })
       (lengthen-does L P R rule s work v k)
   step s (Shorten v k work) d =
       ⊎-elim (untouched-step s (Shorten v k work) d)
-      (λ (m : Stretching L P R rule v k (shorten L P R rule s work v k .left) s
+      (λ (m : Stretching L P R rule v k (s .held) (shorten L P R rule s work v k .left .drawing) (s .drawing)
       (shorten L P R rule s work v k)). record {
-        drawn = m .drawn;
+        sound = m .sound;
         times = λ z l. by-eq v z
             (λ e. omega (
               arith,
-              ap (λ (y : ℕ). getD (shorten L P R rule s work v k .left .times) y 0) e,
-              ap (λ (y : ℕ). getD (s .times) y 0) e,
+              ap (λ (y : ℕ). getD (shorten L P R rule s work v k .left .drawing .times) y 0) e,
+              ap (λ (y : ℕ). getD (s .drawing .times) y 0) e,
               m .stretch .here,
               accepted-share adds s (Shorten v k work) z (m .answer),
               accepted-share takes s (Shorten v k work) z (m .answer) ∙ counts-here v z k e,
@@ -133,25 +163,61 @@ module _ (L : Limits) (P R : List ℕ) (rule : Rule) where
               accepted-share adds s (Shorten v k work) z (m .answer),
               accepted-share takes s (Shorten v k work) z (m .answer) ∙ counts-nowhere v z k ne,
             ));
+        keeps = λ z l h f. stretched-keeps s m (λ w b ne. sym (m .stretch .other w b ne)) z l h;
       })
       (shorten-does L P R rule s work v k)
+  step s (Hold v on work) d =
+      ⊎-elim (untouched-step s (Hold v on work) d)
+      (λ (m : Marking L P R rule v on s (hold L P R rule s work v on)). record {
+        sound = m .sound;
+        times = λ z l. omega (
+          arith,
+          ap (λ (t : Drawing). getD (t .times) z 0) (m .drawing),
+          accepted-share adds s (Hold v on work) z (m .answer),
+          accepted-share takes s (Hold v on work) z (m .answer),
+        );
+        keeps = λ z l h f. (
+          by-eq z v
+              (λ e. eq-eqb _ 1 (ap (λ (y : ℕ). getD (hold L P R rule s work v on .left .held) y 0) e
+              ∙ held-here m (d .held .long)
+              ∙ ap entry (not-freed on v z (sym e) (sym (accepted-share frees s (Hold v on work) z (m .answer)) ∙ f))))
+              (λ ne. ap (λ (a : ℕ). eqb a 1) (held-others m z ne) ∙ h),
+          ap (λ (t : Drawing). getD (t .times) z 0) (m .drawing),
+        );
+      })
+      (hold-does L P R rule s work v on)
 
   ------------------------------------------------------------------------
   -- A list of calls
 
-  pub record Ran (s : Drawing) (calls : List Call) : Type 0 where
-    pub drawn : Drawn (L .place) P R rule (run L P R rule s calls)
+  pub record Ran (s : Sheet) (calls : List Call) : Type 0 where
+    pub sound : Sound (L .place) P R rule (run L P R rule s calls)
     pub times : (z : ℕ) → z < length P
-        → getD (run L P R rule s calls .times) z 0 + taken L P R rule s calls z ≡ getD (s .times) z 0 + added L P R
-        rule s calls z
+        → getD (run L P R rule s calls .drawing .times) z 0 + taken L P R rule s calls z
+        ≡ getD (s .drawing .times) z 0 + added L P R rule s calls z
+    pub keeps : (z : ℕ) → z < length P → isHeld s z ≡ true → freed L P R rule s calls z ≡ 0
+        → Keeps s (run L P R rule s calls) z
 
-  pub ran : (s : Drawing) (calls : List Call) → Drawn (L .place) P R rule s → Ran s calls
-  unfolding run total added taken share
-  ran s [] d = record { drawn = d; times = λ z l. refl }
+  pub ran : (s : Sheet) (calls : List Call) → Sound (L .place) P R rule s → Ran s calls
+  unfolding run total added taken freed share
+  ran s [] d = record { sound = d; times = λ z l. refl; keeps = λ z l h f. (h, refl) }
   ran s (c ∷ cs) d =
       let one = step s c d in
-      let rest = ran (make L P R rule s c .left) cs (one .drawn) in
-      record { drawn = rest .drawn; times = λ z l. omega (arith, one .times z l, rest .times z l) }
+      let rest = ran (make L P R rule s c .left) cs (one .sound) in
+      record {
+        sound = rest .sound;
+        times = λ z l. omega (arith, one .times z l, rest .times z l);
+        keeps = λ z l h f.
+            let now = one .keeps z l h (omega arith) in
+            let then = rest .keeps z l (now .0) (omega arith) in
+            (then .0, then .1 ∙ now .1);
+      }
+
+  pub run-append : (s : Sheet) (first rest : List Call)
+      → run L P R rule s (first ++ rest) ≡ run L P R rule (run L P R rule s first) rest
+  unfolding run
+  run-append s [] rest = refl
+  run-append s (c ∷ cs) rest = run-append (make L P R rule s c .left) cs rest
 
 ------------------------------------------------------------------------
 -- The claim
@@ -173,11 +239,14 @@ accepted-within L M P R long more work e few lists =
     ∙ both .1
 
 module _ (L : Limits) (fit : LimitsFit L) (P R : List ℕ) (rule : Rule) (long : Bool) (work : ℕ)
-    (fine : tableFault L P R long work ≡ none) (tree : Tree P R) (s : Drawing) (calls : List Call)
-    (r : Ran L P R rule s calls)
-    (once : (v : ℕ) → v < length P → getD (s .times) v 0 ≡ 1) where
+    (fine : tableFault L P R long work ≡ none) (tree : Tree P R) (s : Sheet) (calls : List Call)
+    (sound : Sound (L .place) P R rule s)
+    (once : (v : ℕ) → v < length P → getD (s .drawing .times) v 0 ≡ 1) where
   t : Drawing
-  t = run L P R rule s calls
+  t = run L P R rule s calls .drawing
+
+  r : Ran L P R rule s calls
+  r = ran L P R rule s calls sound
 
   few : length P ≤ L .nodes
   few = accepting L P R long work fine .shape .few
@@ -202,9 +271,9 @@ module _ (L : Limits) (fit : LimitsFit L) (P R : List ℕ) (rule : Rule) (long :
   stands : Rattle.direction.specs.RisingPaths.DrawnAlong P (edge P R rule) (λ v. getD (t .times) v 0) (t .x) (t .y)
   unfolding t edge
   stands = record {
-    times-from-1 = λ v a l. r .drawn .some v l;
-    at-x = r .drawn .x .adds .at;
-    at-y = r .drawn .y .adds .at;
+    times-from-1 = λ v a l. r .sound .drawn .some v l;
+    at-x = r .sound .drawn .x .adds .at;
+    at-y = r .sound .drawn .y .adds .at;
   }
 
   directed : (u v : ℕ) → u < length P → v < length P
@@ -224,13 +293,13 @@ module _ (L : Limits) (fit : LimitsFit L) (P R : List ℕ) (rule : Rule) (long :
       (omega arith)
     where
       lists : allLong (length P) (t .x ∷ t .y ∷ []) ≡ true
-      lists = rw (eq-eqb _ _ (r .drawn .x .long), eq-eqb _ _ (r .drawn .y .long)) refl
+      lists = rw (eq-eqb _ _ (r .sound .drawn .x .long), eq-eqb _ _ (r .sound .drawn .y .long)) refl
 
       near : (v : ℕ) → v < length P → placeBeyond (checked .place) (t .x) (t .y) v ≡ false
       near v l =
           neither-is
-          (le-ltb (checked .place) (getD (t .x) v 0) (omega (arith, r .drawn .x .within v l, fit .near)))
-          (le-ltb (checked .place) (getD (t .y) v 0) (omega (arith, r .drawn .y .within v l, fit .near)))
+          (le-ltb (checked .place) (getD (t .x) v 0) (omega (arith, r .sound .drawn .x .within v l, fit .near)))
+          (le-ltb (checked .place) (getD (t .y) v 0) (omega (arith, r .sound .drawn .y .within v l, fit .near)))
 
   monotone : length P ≤ checked .nodes → Says checked P R (t .x) (t .y) (4 * length P) Monotone
   unfolding Says
@@ -248,33 +317,40 @@ module _ (L : Limits) (fit : LimitsFit L) (P R : List ℕ) (rule : Rule) (long :
     λ e. subst⁻¹ (λ (b : Verdict). Says checked P R (t .x) (t .y) (4 * length P) b) e (monotone h),
   )
 
+  -- held after the first calls, and not freed by the rest
+  kept : (first rest : List Call) → calls ≡ first ++ rest → (v : ℕ) → v < length P
+      → isHeld (run L P R rule s first) v ≡ true → freed L P R rule (run L P R rule s first) rest v ≡ 0
+      → getD (run L P R rule s calls .drawing .times) v 0 ≡ getD (run L P R rule s first .drawing .times) v 0
+  kept first rest e v l h f =
+      ap (λ (u : Sheet). getD (u .drawing .times) v 0) (ap (run L P R rule s) e ∙ run-append L P R rule s first rest)
+      ∙ ran L P R rule (run L P R rule s first) rest (ran L P R rule s first sound .sound) .keeps v l h f .1
+
   pub assured : Assured L P R rule s calls (run L P R rule s calls)
   unfolding t
   assured = record {
     directions = directed;
     no-crossing = edges-apart tree rule stands;
-    within = λ v l. (r .drawn .x .within v l, r .drawn .y .within v l);
-    taken-least = λ v a l. omega (arith, times-are v l, r .drawn .some v l);
-    places-x = places acrossOf (t .x) (r .drawn .x);
-    places-y = places upOf (t .y) (r .drawn .y);
+    within = λ v l. (r .sound .drawn .x .within v l, r .sound .drawn .y .within v l);
+    taken-least = λ v a l. omega (arith, times-are v l, r .sound .drawn .some v l);
+    places-x = places acrossOf (t .x) (r .sound .drawn .x);
+    places-y = places upOf (t .y) (r .sound .drawn .y);
     check = says;
+    held = kept;
   }
 
-layout-fine : (L : Limits) (P R : List ℕ) (rule : Rule) (old : Drawing) (work w h : ℕ) (s : Drawing)
+layout-fine : (L : Limits) (P R : List ℕ) (rule : Rule) (old : Sheet) (work w h : ℕ) (s : Sheet)
     → layout L P R rule old work ≡ record { answer = Frame w h; left = s }
     → tableFault L P R (lengthsFit P old) work ≡ none
 unfolding layout
 layout-fine L P R rule old work w h s e =
-    settled old (fresh P R rule) (frame (fresh P R rule)) (tableFault L P R (lengthsFit P old) work) e .0
+    settled old (freshSheet P R rule) (frame (fresh P R rule)) (tableFault L P R (lengthsFit P old) work) e .0
 
 pub claim : (L : Limits) → LimitsFit L → Claim L
 unfolding Claim
 claim L fit P R rule old work w h s e calls =
-    let l = layout-drawn L (fit .roomy) P R rule old work w h s e in
-    assured L fit P R rule (lengthsFit P old) work (layout-fine L P R rule old work w h s e) (l .0) s
-    calls
-    (ran L P R rule s calls (l .1))
-    (λ v b. ap (λ (d : Drawing). getD (d .times) v 0) (sym (l .2)) ∙ fresh-once (l .0) rule v b)
+    let l = layout-sound L (fit .roomy) P R rule old work w h s e in
+    assured L fit P R rule (lengthsFit P old) work (layout-fine L P R rule old work w h s e) (l .0) s calls (l .1)
+    (λ v b. ap (λ (u : Sheet). getD (u .drawing .times) v 0) (sym (l .2)) ∙ fresh-once (l .0) rule v b)
 
 pub large-fits : LimitsFit large
 large-fits = record { roomy = large-roomy; few = omega arith; near = omega arith }

@@ -13,8 +13,9 @@ ghost use lib.IntN.{pos};
 ghost use lib.ListN.{length};
 ghost use Rattle.table.specs.Table.{large, checked};
 ghost use Rattle.numbers.specs.PostNumbers.{spans, Spanned};
-ghost use Rattle.drawing.specs.Drawing.{layout, drawing, Does};
+ghost use Rattle.drawing.specs.Drawing.{layout, sheet, Does};
 ghost use Rattle.stretching.specs.Stretching.{lengthen, shorten};
+ghost use Rattle.holding.specs.Holding as holding;
 ghost use Rattle.direction.specs.Direction.{Directed};
 ghost use Rattle.monotone.specs.Monotone.{Checked};
 ghost use Rattle.treefile.specs.TreeFile.{statedOrZero, Read, Wrote};
@@ -145,18 +146,19 @@ pub extern "C" fn lineage_layout(
     times: &mut [u32],
     x: &mut [u32],
     y: &mut [u32],
+    held: &mut [u32],
     work: &mut [u32],
     reply: &mut [i64],
 ) -> bool
     ensures { λ b. ⌜ Exported
-        (Does large parent rank (drawing times x y) work (λ P R s m. layout large P R (ruleOf balanced) s m))
-        framedReply (Unchanged (drawing times x y) work)
+        (Does large parent rank (sheet times x y held) work (λ P R s m. layout large P R (ruleOf balanced) s m))
+        framedReply (Unchanged (sheet times x y held) work)
         (now (reply .entry)) (now (reply .exit)) b ⌝ }
 {
     if reply.len() != 3 {
         return false;
     }
-    let answer = drawing::layout(rule_of(balanced), parent, rank, times, x, y, work);
+    let answer = drawing::layout(rule_of(balanced), parent, rank, times, x, y, held, work);
     put_framed(reply, answer);
     true
 }
@@ -170,15 +172,16 @@ pub extern "C" fn lineage_lengthen(
     times: &mut [u32],
     x: &mut [u32],
     y: &mut [u32],
+    held: &[u32],
     work: &mut [u32],
     lot: u32,
     count: u32,
     reply: &mut [i64],
 ) -> bool
     ensures { λ b. ⌜ Exported
-        (Does large parent rank (drawing times x y) work
+        (Does large parent rank (sheet times x y held) work
         (λ P R s m. lengthen large P R (ruleOf balanced) s m lot count))
-        framedReply (Unchanged (drawing times x y) work)
+        framedReply (Unchanged (sheet times x y held) work)
         (now (reply .entry)) (now (reply .exit)) b ⌝ }
 {
     if reply.len() != 3 {
@@ -191,6 +194,7 @@ pub extern "C" fn lineage_lengthen(
         times,
         x,
         y,
+        held,
         work,
         lot,
         count,
@@ -208,15 +212,16 @@ pub extern "C" fn lineage_shorten(
     times: &mut [u32],
     x: &mut [u32],
     y: &mut [u32],
+    held: &[u32],
     work: &mut [u32],
     lot: u32,
     count: u32,
     reply: &mut [i64],
 ) -> bool
     ensures { λ b. ⌜ Exported
-        (Does large parent rank (drawing times x y) work
+        (Does large parent rank (sheet times x y held) work
         (λ P R s m. shorten large P R (ruleOf balanced) s m lot count))
-        framedReply (Unchanged (drawing times x y) work)
+        framedReply (Unchanged (sheet times x y held) work)
         (now (reply .entry)) (now (reply .exit)) b ⌝ }
 {
     if reply.len() != 3 {
@@ -229,9 +234,50 @@ pub extern "C" fn lineage_shorten(
         times,
         x,
         y,
+        held,
         work,
         lot,
         count,
+    );
+    put_framed(reply, answer);
+    true
+}
+
+// Holds an edge, or frees it: {1, width, height}, or {0, number, node} where it is refused.
+#[no_mangle]
+pub extern "C" fn lineage_hold(
+    balanced: bool,
+    parent: &[u32],
+    rank: &[u32],
+    times: &[u32],
+    x: &[u32],
+    y: &[u32],
+    held: &mut [u32],
+    work: &mut [u32],
+    lot: u32,
+    hold: bool,
+    reply: &mut [i64],
+) -> bool
+    ensures { λ b. ⌜ Exported
+        (Does large parent rank (sheet times x y held) work
+        (λ P R s m. holding.hold large P R (ruleOf balanced) s m lot hold))
+        framedReply (Unchanged (sheet times x y held) work)
+        (now (reply .entry)) (now (reply .exit)) b ⌝ }
+{
+    if reply.len() != 3 {
+        return false;
+    }
+    let answer = holding::hold(
+        rule_of(balanced),
+        parent,
+        rank,
+        times,
+        x,
+        y,
+        held,
+        work,
+        lot,
+        hold,
     );
     put_framed(reply, answer);
     true

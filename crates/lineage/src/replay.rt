@@ -1,15 +1,16 @@
-// A tree laid out, and a lent list of lengthen and shorten calls made one after the other: what the claim says of every
-// list of calls holds of what this function leaves.
+// A tree laid out, and a lent list of lengthen, shorten and hold calls made one after the other: what the claim says of
+// every list of calls holds of what this function leaves.
 use drawing::Framed;
 use slopes::Rule;
 ghost use mathlib.Core.Path.{_≡_};
 ghost use lib.ListN.{length};
 ghost use Rattle.table.specs.Table.{large};
-ghost use Rattle.drawing.specs.Drawing.{drawing};
+ghost use Rattle.drawing.specs.Drawing.{sheet};
 ghost use Rattle.lineage.specs.Claim.{make, run};
 ghost use Rattle.lineage.specs.Replay.{callOf, callsTo, Replayed};
 
-// Makes one call: kind 0 lengthens, any other shortens. A refused one changes nothing.
+// Makes one call: kind 0 lengthens, 1 shortens, and any other holds, or frees where the count is 0. A refused one
+// changes nothing.
 fn make_call(
     rule: Rule,
     parent: &[u32],
@@ -17,19 +18,23 @@ fn make_call(
     times: &mut [u32],
     x: &mut [u32],
     y: &mut [u32],
+    held: &mut [u32],
     work: &mut [u32],
     kind: u32,
     lot: u32,
     count: u32,
 ) -> Framed
-    ensures { λ _. ⌜ drawing times x y .exit
-        ≡ make large (now (parent .entry)) (now (rank .entry)) rule (drawing times x y .entry)
+    ensures { λ _. ⌜ sheet times x y held .exit
+        ≡ make large (now (parent .entry)) (now (rank .entry)) rule (sheet times x y held .entry)
         (callOf kind lot count (length (now (work .entry)))) .left ⌝ }
 {
     if kind == 0 {
-        return stretching::lengthen(rule, parent, rank, times, x, y, work, lot, count);
+        return stretching::lengthen(rule, parent, rank, times, x, y, held, work, lot, count);
     }
-    stretching::shorten(rule, parent, rank, times, x, y, work, lot, count)
+    if kind == 1 {
+        return stretching::shorten(rule, parent, rank, times, x, y, held, work, lot, count);
+    }
+    holding::hold(rule, parent, rank, times, x, y, held, work, lot, count != 0)
 }
 
 // Makes the calls of the lists in order.
@@ -40,14 +45,15 @@ fn make_calls(
     times: &mut [u32],
     x: &mut [u32],
     y: &mut [u32],
+    held: &mut [u32],
     work: &mut [u32],
     kinds: &[u32],
     lots: &[u32],
     counts: &[u32],
 )
     requires { ⌜ (length (now lots) ≡ length (now kinds)) × (length (now counts) ≡ length (now kinds)) ⌝ }
-    ensures { λ _. ⌜ drawing times x y .exit
-        ≡ run large (now (parent .entry)) (now (rank .entry)) rule (drawing times x y .entry)
+    ensures { λ _. ⌜ sheet times x y held .exit
+        ≡ run large (now (parent .entry)) (now (rank .entry)) rule (sheet times x y held .entry)
         (callsTo (now (kinds .entry)) (now (lots .entry)) (now (counts .entry)) (length (now (work .entry)))
         (length (now (kinds .entry)))) ⌝ }
 {
@@ -57,7 +63,19 @@ fn make_calls(
         let kind = kinds[i];
         let lot = lots[i];
         let count = counts[i];
-        make_call(rule, parent, rank, times, x, y, work, kind, lot, count);
+        make_call(
+            rule,
+            parent,
+            rank,
+            times,
+            x,
+            y,
+            held,
+            work,
+            kind,
+            lot,
+            count,
+        );
         i += 1;
     }
 }
@@ -71,20 +89,33 @@ pub fn replay(
     times: &mut [u32],
     x: &mut [u32],
     y: &mut [u32],
+    held: &mut [u32],
     work: &mut [u32],
     kinds: &[u32],
     lots: &[u32],
     counts: &[u32],
 ) -> Framed
     requires { ⌜ (length (now lots) ≡ length (now kinds)) × (length (now counts) ≡ length (now kinds)) ⌝ }
-    ensures { λ r. ⌜ Replayed large (now (parent .entry)) (now (rank .entry)) rule (drawing times x y .entry)
+    ensures { λ r. ⌜ Replayed large (now (parent .entry)) (now (rank .entry)) rule (sheet times x y held .entry)
         (length (now (work .entry))) (now (kinds .entry)) (now (lots .entry)) (now (counts .entry))
-        (drawing times x y .exit) r ⌝ }
+        (sheet times x y held .exit) r ⌝ }
 {
-    match drawing::layout(rule, parent, rank, times, x, y, work) {
+    match drawing::layout(rule, parent, rank, times, x, y, held, work) {
         Framed::Refused(number, lot) => Framed::Refused(number, lot),
         Framed::Frame(width, height) => {
-            make_calls(rule, parent, rank, times, x, y, work, kinds, lots, counts);
+            make_calls(
+                rule,
+                parent,
+                rank,
+                times,
+                x,
+                y,
+                held,
+                work,
+                kinds,
+                lots,
+                counts,
+            );
             Framed::Frame(width, height)
         }
     }

@@ -8,16 +8,16 @@
 --   lengthen-does, shorten-does == lengthen and shorten refuse or stretch
 --   shorten-undoes              == shorten undoes lengthen
 --   lengthen-0, shorten-0       == of a free edge count 0 changes nothing and is no ground for a refusal
-use mathlib.Core.Bool.{Bool, true, false, not, _||_}
+use mathlib.Core.Bool.{Bool, true, false, _||_}
 use mathlib.Core.List.{List}
 use mathlib.Core.Logic.{_⊎_, inl, inr}
 use mathlib.Core.Option.{Option, none, some}
-use mathlib.Core.Path.{_≡_, refl, sym, ap, ap₂, subst, subst⁻¹, _∙_}
+use mathlib.Core.Path.{_≡_, refl, ap, ap₂, subst, subst⁻¹, _∙_}
 use Prim.Native.Nat.{ℕ, _≤_, _<_}
 use native.Mathlib.Omega.{arith}
 use lib.Dec.{ltb, leb, eqb}
 use lib.ListN.{length, getD}
-use borrow.Author.Tests.{ltb-false, lt-ltb, le-ltb, lt-leb, leb-false, eqb-false, ne-eqb, not-false}
+use borrow.Author.Tests.{ltb-false, lt-ltb, le-ltb, lt-leb, leb-false, eqb-false, ne-eqb}
 use Rattle.laws.specs.Refusals.{orElse-second, orElse-none, refuse-no, refuse-none}
 use Rattle.laws.specs.Refusals.{settle-none}
 use Rattle.laws.specs.Search.{least, Refusal, refuse, _orElse_, Outcome}
@@ -128,7 +128,7 @@ pub record Stretching (L : Limits) (P R : List ℕ) (rule : Rule) (v c : ℕ) (H
   pub inside : v < length P
   pub free : eqb (getD H v 0) 1 ≡ false
   pub answer : o .answer ≡ frame (o .left .drawing)
-  pub drawn : Drawn (L .place) P R rule (o .left .drawing)
+  pub sound : Sound (L .place) P R rule (o .left)
   pub held : o .left .held ≡ H
   pub stretch : Stretch P R rule v c s t
 
@@ -163,8 +163,8 @@ module _ (L : Limits) (P R : List ℕ) (rule : Rule) (s : Sheet) (work v c : ℕ
   shorter-drawn x less =
       let drawn = x .inspected .sound .drawn in
       let tree = x .inspected .accepting .tree in
-      unstretch-drawn tree (x .above) (x .inside) (shorter-stretch tree (x .above) (x .inside) drawn (omega arith)) drawn
-      less
+      unstretch-drawn tree (x .above) (x .inside) (shorter-stretch tree (x .above) (x .inside) drawn (omega arith))
+      drawn less
 
   pub lengthen-does : (let o = lengthen L P R rule s work v c in
       Untouched s o ⊎ Stretching L P R rule v c (s .held) (s .drawing) (o .left .drawing) o)
@@ -184,7 +184,10 @@ module _ (L : Limits) (P R : List ℕ) (rule : Rule) (s : Sheet) (work v c : ℕ
             inside = x .inside;
             free = f .free;
             answer = refl;
-            drawn = longer-drawn x (refuse-none _ (L .far) v (parts .1));
+            sound = record {
+              drawn = longer-drawn x (refuse-none _ (L .far) v (parts .1));
+              held = x .inspected .sound .held;
+            };
             held = refl;
             stretch = longer-stretch (x .inspected .sound .drawn) (x .inside);
           })
@@ -196,7 +199,8 @@ module _ (L : Limits) (P R : List ℕ) (rule : Rule) (s : Sheet) (work v c : ℕ
     where
       go : (f : Option Refusal) → (stretchFault L P R rule s work v orElse tooShort) ≡ f
           → Untouched s (redrawn f s backSheet)
-          ⊎ Stretching L P R rule v c (s .held) (redrawn f s backSheet .left .drawing) (s .drawing) (redrawn f s backSheet)
+          ⊎ Stretching L P R rule v c (s .held) (redrawn f s backSheet .left .drawing) (s .drawing)
+          (redrawn f s backSheet)
       go (some r) e = inl (record { number = r .number; node = r .node; answer = refl; left = refl })
       go none e =
           let parts = orElse-none (stretchFault L P R rule s work v) tooShort e in
@@ -208,7 +212,7 @@ module _ (L : Limits) (P R : List ℕ) (rule : Rule) (s : Sheet) (work v c : ℕ
             inside = x .inside;
             free = f .free;
             answer = refl;
-            drawn = shorter-drawn x less;
+            sound = record { drawn = shorter-drawn x less; held = x .inspected .sound .held };
             held = refl;
             stretch = shorter-stretch (x .inspected .accepting .tree) (x .above) (x .inside)
                 (x .inspected .sound .drawn)

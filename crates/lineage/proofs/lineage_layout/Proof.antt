@@ -13,8 +13,9 @@ returns-2 : tie.Need-returns-2
 unfolding Exported
 returns-2 c =
     let replied = c .before in
-    let called = replied .before .before .before .before .before .before .before .before .before .before in
-    let ruled = called .before .before .before .before .before in (
+    let called =
+    replied .before .before .before .before .before .before .before .before .before .before .before .before in
+    let ruled = called .before .before .before .before .before .before in (
       ruled .before .if1 .left,
       record {
         answer = called .layout .result;
@@ -26,4 +27,4 @@ returns-2 c =
 pub lineage-layout-spec : {M : Type 1} → statement M
 lineage-layout-spec = tie.close (tie.spec returns (λ c κs. search needs) (λ c κs. search needs)
     (λ c κs. search needs) (λ c. search needs) (λ c. search needs) (λ c. search needs) (λ c. search needs)
-    (λ c. search needs) returns-2)
+    (λ c. search needs) (λ c. search needs) returns-2)

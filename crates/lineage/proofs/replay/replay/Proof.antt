@@ -5,7 +5,7 @@ use Rattle.lineage.proofs.replay.replay.Statement.{statement}
 use Rattle.lineage.proofs.replay.replay.Tie as tie
 
 abbrev laid : tie.After-work → tie.After-layout
-laid c = c .before .before .before .before .before .before .before
+laid c = c .before .before .before .before .before .before .before .before .before
 
 returns : tie.Need-returns
 returns c =
@@ -14,8 +14,8 @@ returns c =
 
 returns-2 : tie.Need-returns-2
 returns-2 c =
-    let at-make-calls = c .before .before .before .before .before .before .before .before in
-    let at-width = at-make-calls .before .before .before .before .before .before in
+    let at-make-calls = c .before .before .before .before .before .before .before .before .before .before in
+    let at-width = at-make-calls .before .before .before .before .before .before .before in
     let at-layout = laid (at-width .before .before .before) in
     replayed-all _ _ _ _ _ _ (at-layout .layout .ensures .says) _ _ _ (at-width .width .given .1)
     (at-layout .layout .ensures .long) (at-make-calls .make-calls .ensures)
@@ -23,5 +23,6 @@ returns-2 c =
 pub replay-spec : {M : Type 1} → statement M
 replay-spec = tie.close (tie.spec (λ c κs. search needs) (λ c. search needs) (λ c. search needs)
     (λ c κs. search needs) (λ c. search needs) (λ c. search needs) (λ c. search needs) (λ c. search needs)
-    returns (λ c. search needs) (λ c. search needs) (λ c. search needs) (λ c. search needs)
+    (λ c. search needs)
+    returns (λ c. search needs) (λ c. search needs) (λ c. search needs) (λ c. search needs) (λ c. search needs)
     returns-2)
