@@ -1,13 +1,14 @@
 -- Document 01's cases that are marked [proved], as document 02 changes them: one table, and one theorem about the
 -- definitions. Frames count grid cells (request 101), the walk to a balanced slope tells its turns (request 104), post
--- numbers come with the first of each subtree (request 107), and a lot has a direction to itself (request 109).
+-- numbers come with the first of each subtree (request 107), a lot has a direction to itself (request 109), and lines
+-- can be held (request 108).
 --
 --   Case          == a case, with what document 01 says of it
 --   Holds c       == the definitions say so
 --   line ds       == one-digit numbers, one space between, and the line's end
 --   cases         == the table, in document 01's order
 --   cases-hold    == every case of it holds
-use mathlib.Core.Bool.{true}
+use mathlib.Core.Bool.{true, false}
 use mathlib.Core.List.{List, [], _∷_, _++_, map}
 use mathlib.Core.Path.{_≡_, refl}
 use Prim.Native.Nat.{ℕ, suc, _+_, _*_}
@@ -26,9 +27,11 @@ use Rattle.slopes.specs.Examples.{_over_}
 use Rattle.slopes.specs.Slopes.{levels, levelNumbers, flat, upright, levelAt, levelsFor, slopeAt, edge}
 use Rattle.drawing.specs.declared.Framed.{Framed}
 use Rattle.drawing.specs.declared.Framed.the-variants.{Frame, Refused}
-use Rattle.drawing.specs.Drawing.{Drawing, sumUp, pathSum, freshPlaces, fresh, largest, frame, placed, nodeFits}
-use Rattle.drawing.specs.Drawing.{drawingFault, layout, lent}
-use Rattle.stretching.specs.Stretching.{moved, stretched, beyond, edgeFault, stretchFault, lengthen, shorten}
+use Rattle.drawing.specs.Drawing as drawing
+use Rattle.drawing.specs.Drawing.{Sheet, sumUp, pathSum, freshPlaces, fresh, largest, frame, placed, nodeFits}
+use Rattle.drawing.specs.Drawing.{heldFits, lotFits, sheetFault, layout, lent}
+use Rattle.stretching.specs.Stretching.{moved, stretched, beyond, edgeFault, lotFault, stretchFault, lengthen, shorten}
+use Rattle.holding.specs.Holding.{hold}
 use Rattle.direction.specs.declared.Heading.the-variants.{Along}
 use Rattle.direction.specs.Direction.{sideways, heading, pairFault, direction}
 use Rattle.monotone.specs.declared.Verdict.{Verdict}
@@ -58,8 +61,8 @@ anySpans = spans (7 ∷ 7 ∷ 7 ∷ 7 ∷ 7 ∷ []) (7 ∷ 7 ∷ 7 ∷ 7 ∷ 7 �
 pub data Case : Type 0 where
   -- the post numbers of a table's nodes, and the lists of first and last numbers that the call fills with them
   Numbers : List ℕ → List ℕ → Spans → Case
-  -- an outcome of layout, lengthen or shorten: the answer and the drawing
-  Calls : Outcome Framed Drawing → Framed → Drawing → Case
+  -- an outcome of layout, lengthen, shorten or hold: the answer and the sheet
+  Calls : Outcome Framed Sheet → Framed → Sheet → Case
   -- the steep direction of the five-lot table from u to v
   Goes : ℕ → ℕ → ℤ → ℤ → Case
   -- the fractions of levels 1 to k, and how many turns lead to each: one less than its level
@@ -87,20 +90,51 @@ AllHold [] = Unit {0}
 AllHold (c ∷ cs) = Holds c × AllHold cs
 
 ------------------------------------------------------------------------
--- Drawings and texts
+-- Sheets and texts
+
+-- of the five lots: with no line held, and with lot 1's held
+abbrev free : List ℕ → List ℕ → List ℕ → Sheet
+free times x y = drawing.sheetOf (lent times x y) (0 ∷ 0 ∷ 0 ∷ 0 ∷ 0 ∷ [])
+
+abbrev heldOne : List ℕ → List ℕ → List ℕ → Sheet
+heldOne times x y = drawing.sheetOf (lent times x y) (0 ∷ 1 ∷ 0 ∷ 0 ∷ 0 ∷ [])
 
 -- whatever the lists hold before
-abbrev anyFive : Drawing
-anyFive = lent (7 ∷ 7 ∷ 7 ∷ 7 ∷ 7 ∷ []) (7 ∷ 7 ∷ 7 ∷ 7 ∷ 7 ∷ []) (7 ∷ 7 ∷ 7 ∷ 7 ∷ 7 ∷ [])
+abbrev anyFive : Sheet
+anyFive = let l : List ℕ = 7 ∷ 7 ∷ 7 ∷ 7 ∷ 7 ∷ [] in drawing.sheetOf (lent l l l) l
 
-abbrev steep : Drawing
-steep = lent (1 ∷ 1 ∷ 1 ∷ 1 ∷ 1 ∷ []) (0 ∷ 1 ∷ 1 ∷ 2 ∷ 2 ∷ []) (0 ∷ 3 ∷ 4 ∷ 4 ∷ 5 ∷ [])
+abbrev ones : List ℕ
+ones = 1 ∷ 1 ∷ 1 ∷ 1 ∷ 1 ∷ []
 
-abbrev balanced : Drawing
-balanced = lent (1 ∷ 1 ∷ 1 ∷ 1 ∷ 1 ∷ []) (0 ∷ 3 ∷ 1 ∷ 6 ∷ 5 ∷ []) (0 ∷ 2 ∷ 1 ∷ 3 ∷ 3 ∷ [])
+abbrev steepX : List ℕ
+steepX = 0 ∷ 1 ∷ 1 ∷ 2 ∷ 2 ∷ []
 
-abbrev stretchedOne : Drawing
-stretchedOne = lent (1 ∷ 3 ∷ 1 ∷ 1 ∷ 1 ∷ []) (0 ∷ 3 ∷ 1 ∷ 4 ∷ 4 ∷ []) (0 ∷ 9 ∷ 4 ∷ 10 ∷ 11 ∷ [])
+abbrev steepY : List ℕ
+steepY = 0 ∷ 3 ∷ 4 ∷ 4 ∷ 5 ∷ []
+
+abbrev steep : Sheet
+steep = free ones steepX steepY
+
+abbrev balanced : Sheet
+balanced = free ones (0 ∷ 3 ∷ 1 ∷ 6 ∷ 5 ∷ []) (0 ∷ 2 ∷ 1 ∷ 3 ∷ 3 ∷ [])
+
+abbrev stretchedOne : Sheet
+stretchedOne = free (1 ∷ 3 ∷ 1 ∷ 1 ∷ 1 ∷ []) (0 ∷ 3 ∷ 1 ∷ 4 ∷ 4 ∷ []) (0 ∷ 9 ∷ 4 ∷ 10 ∷ 11 ∷ [])
+
+-- lot 1's line held; then lot 3 longer by 2
+abbrev steepHeld : Sheet
+steepHeld = heldOne ones steepX steepY
+
+abbrev stretchedThree : Sheet
+stretchedThree = heldOne (1 ∷ 1 ∷ 1 ∷ 3 ∷ 1 ∷ []) (0 ∷ 1 ∷ 1 ∷ 4 ∷ 2 ∷ []) (0 ∷ 3 ∷ 4 ∷ 6 ∷ 5 ∷ [])
+
+-- lot 3's line held, and moved along with lot 1's
+abbrev heldThree : List ℕ → List ℕ → List ℕ → Sheet
+heldThree times x y = drawing.sheetOf (lent times x y) (0 ∷ 0 ∷ 0 ∷ 1 ∷ 0 ∷ [])
+
+-- lot 0 held, and a wrong times of lot 1
+abbrev brokenTwice : Sheet
+brokenTwice = drawing.sheetOf (lent (1 ∷ 2 ∷ 1 ∷ 1 ∷ 1 ∷ []) steepX steepY) (1 ∷ 0 ∷ 0 ∷ 0 ∷ 0 ∷ [])
 
 abbrev line : List ℕ → List ℕ
 line [] = []
@@ -118,11 +152,11 @@ one = 0 ∷ []
 abbrev two : List ℕ
 two = 0 ∷ 0 ∷ []
 
-abbrev freshTwo : Drawing
-freshTwo = lent (1 ∷ 1 ∷ []) (0 ∷ 1 ∷ []) (0 ∷ 1 ∷ [])
+abbrev freshTwo : Sheet
+freshTwo = drawing.sheetOf (lent (1 ∷ 1 ∷ []) (0 ∷ 1 ∷ []) (0 ∷ 1 ∷ [])) two
 
-abbrev farTwo : Drawing
-farTwo = lent (1 ∷ 2147483647 ∷ []) (0 ∷ 2147483647 ∷ []) (0 ∷ 2147483647 ∷ [])
+abbrev farTwo : Sheet
+farTwo = drawing.sheetOf (lent (1 ∷ 2147483647 ∷ []) (0 ∷ 2147483647 ∷ []) (0 ∷ 2147483647 ∷ [])) two
 
 ------------------------------------------------------------------------
 -- The table
@@ -144,11 +178,23 @@ cases =
     ∷ Calls (lengthen large fiveParents fiveRanks Steep steep 20 1 2) (Frame 5 12) stretchedOne
     ∷ Calls (shorten large fiveParents fiveRanks Steep stretchedOne 20 1 3) (Refused 12 1) stretchedOne
     ∷ Calls (shorten large fiveParents fiveRanks Steep stretchedOne 20 1 2) (Frame 3 6) steep
+    -- lot 1 held: it is not lengthened, by 0 either, and lot 3 is; freed, it is lengthened by 2 as above
+    ∷ Calls (hold large fiveParents fiveRanks Steep steep 20 1 true) (Frame 3 6) steepHeld
+    ∷ Calls (lengthen large fiveParents fiveRanks Steep steepHeld 20 1 0) (Refused 22 1) steepHeld
+    ∷ Calls (shorten large fiveParents fiveRanks Steep steepHeld 20 1 1) (Refused 22 1) steepHeld
+    ∷ Calls (lengthen large fiveParents fiveRanks Steep steepHeld 20 3 2) (Frame 5 7) stretchedThree
+    ∷ Calls (hold large fiveParents fiveRanks Steep steepHeld 20 1 false) (Frame 3 6) steep
+    -- lot 3 held: it moves with lot 1
+    ∷ Calls (lengthen large fiveParents fiveRanks Steep (heldThree ones steepX steepY) 20 1 2) (Frame 5 12)
+    (heldThree (1 ∷ 3 ∷ 1 ∷ 1 ∷ 1 ∷ []) (0 ∷ 3 ∷ 1 ∷ 4 ∷ 4 ∷ []) (0 ∷ 9 ∷ 4 ∷ 10 ∷ 11 ∷ []))
+    -- two lots that break the sheet: the smaller one is named
+    ∷ Calls (hold large fiveParents fiveRanks Steep brokenTwice 20 1 true) (Refused 8 0) brokenTwice
     -- three balanced levels, and the turns to each slope
     ∷ Levels 3 (1 over 3 ∷ 1 over 2 ∷ 2 over 3 ∷ 1 over 1 ∷ 3 over 2 ∷ 2 over 1 ∷ 3 over 1 ∷ [])
     (2 ∷ 1 ∷ 2 ∷ 0 ∷ 2 ∷ 1 ∷ 2 ∷ [])
     -- one lot
-    ∷ Calls (layout large one one Balanced (lent (9 ∷ []) (9 ∷ []) (9 ∷ [])) 4) (Frame 1 1) (lent (1 ∷ []) one one)
+    ∷ Calls (layout large one one Balanced (drawing.sheetOf (lent (9 ∷ []) (9 ∷ []) (9 ∷ [])) (9 ∷ [])) 4) (Frame 1 1)
+    (drawing.sheetOf (lent (1 ∷ []) one one) one)
     -- two lots, up to the largest place and one beyond it
     ∷ Calls (lengthen large two two Steep freshTwo 8 1 2147483646) (Frame 2147483648 2147483648) farTwo
     ∷ Calls (lengthen large two two Steep freshTwo 8 1 2147483647) (Refused 11 1) freshTwo
@@ -175,13 +221,15 @@ unfolding AllHold Holds cases count least tabulate climb leads isChild children 
     postorder place order postNumber hasNumber firstNumber spansOf postNumbers strayParent badRank adrift allLong
     shapeFault treeFault tableFault
     levels levelNumbers levelsFor slopeAt edge sumUp pathSum freshPlaces fresh largest frame placed nodeFits moved
-    stretched beyond drawingFault edgeFault stretchFault layout lengthen shorten sideways heading pairFault direction
+    heldFits lotFits stretched beyond sheetFault edgeFault lotFault stretchFault layout lengthen shorten hold sideways
+    heading pairFault direction
     wordAt words statedNodes fileParents fileRanks openFault bytesOf allBytes fileOf digits decimal field lotLine
     lotLines sheetOf fileFault placesOfTable textOf sheetText
     monotone.placeBeyond checkFault widen span upward downward pathVectors turnsAt secondNode firstNode decide
 cases-hold =
     (refl, refl) and refl and refl and refl and refl and refl and refl and refl and refl
-    and refl and refl and refl and (refl, refl) and refl and refl and refl
+    and refl and refl and refl and refl and refl and refl and refl and refl and refl and refl
+    and (refl, refl) and refl and refl and refl
     and says (0 ∷ 0 ∷ 1 ∷ 2 ∷ []) (0 ∷ 0 ∷ 0 ∷ 0 ∷ []) (0 ∷ 1 ∷ 1 ∷ 0 ∷ []) (0 ∷ 0 ∷ 1 ∷ 1 ∷ [])
     and says (0 ∷ 0 ∷ 1 ∷ []) (0 ∷ 0 ∷ 0 ∷ []) (0 ∷ 1 ∷ 2 ∷ []) (0 ∷ 0 ∷ 0 ∷ [])
     and says two two two two

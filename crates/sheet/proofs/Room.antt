@@ -11,10 +11,10 @@ few : (m : ℕ) → lotsIn m ≤ 4096
 unfolding lotsIn
 few m = omega arith
 
-pub ample : {B P R T x y u w W out : List ℕ} → 4096 ≡ length P → 4096 ≡ length R → 4096 ≡ length T → 4096 ≡ length x
-    → 4096 ≡ length y → 4096 ≡ length u → 4096 ≡ length w → 16384 ≡ length W → 225310 ≡ length out
-    → Ample B P R T x y u w W out
-ample {B} p r t x y u w k o = record {
+pub ample : {B P R T x y u w H W out : List ℕ} → 4096 ≡ length P → 4096 ≡ length R → 4096 ≡ length T → 4096 ≡ length x
+    → 4096 ≡ length y → 4096 ≡ length u → 4096 ≡ length w → 4096 ≡ length H → 16384 ≡ length W → 225310 ≡ length out
+    → Ample B P R T x y u w H W out
+ample {B} p r t x y u w h k o = record {
   parent = omega (arith, few (length B));
   rank = omega (arith, few (length B));
   times = omega (arith, few (length B));
@@ -22,6 +22,7 @@ ample {B} p r t x y u w k o = record {
   steep-y = omega (arith, few (length B));
   balanced-x = omega (arith, few (length B));
   balanced-y = omega (arith, few (length B));
+  held = omega (arith, few (length B));
   work = omega (arith, few (length B));
   room = omega (arith, few (length B));
 }

@@ -33,6 +33,7 @@ fn main() {
     let mut y = [0u32; 4096];
     let mut u = [0u32; 4096];
     let mut w = [0u32; 4096];
+    let mut held = [0u32; 4096];
     let mut work = [0u32; 16384];
     let mut out = [0u8; 225310];
     let k = sheetfile::sheet_text(
@@ -44,6 +45,7 @@ fn main() {
         &mut y,
         &mut u,
         &mut w,
+        &mut held,
         &mut work,
         &mut out,
     );

@@ -15,9 +15,10 @@ cut-whole n m l e h = e ∙ sym (cut-long n m l e h)
 pub times-four : {n m : ℕ} → n ≡ m → 4 * n ≡ 4 * m
 times-four e = ap (λ (k : ℕ). 4 * k) e
 
-pub fitting : {B P R T x y u w W out : List ℕ} (n : ℕ) → n ≡ lotsIn (length B) → Ample B P R T x y u w W out
-    → Fitting B (take n P) (take n R) (take n T) (take n x) (take n y) (take n u) (take n w) (take (4 * n) W) out
-fitting {B} {P} {R} {T} {x} {y} {u} {w} {W} n e a = record {
+pub fitting : {B P R T x y u w H W out : List ℕ} (n : ℕ) → n ≡ lotsIn (length B) → Ample B P R T x y u w H W out
+    → Fitting B (take n P) (take n R) (take n T) (take n x) (take n y) (take n u) (take n w) (take n H) (take (4 * n) W)
+    out
+fitting {B} {P} {R} {T} {x} {y} {u} {w} {H} {W} n e a = record {
   parent = cut-long n (lotsIn (length B)) P e (a .parent);
   rank = cut-long n (lotsIn (length B)) R e (a .rank);
   times = cut-long n (lotsIn (length B)) T e (a .times);
@@ -25,6 +26,7 @@ fitting {B} {P} {R} {T} {x} {y} {u} {w} {W} n e a = record {
   steep-y = cut-long n (lotsIn (length B)) y e (a .steep-y);
   balanced-x = cut-long n (lotsIn (length B)) u e (a .balanced-x);
   balanced-y = cut-long n (lotsIn (length B)) w e (a .balanced-y);
+  held = cut-long n (lotsIn (length B)) H e (a .held);
   work = cut-long (4 * n) (4 * lotsIn (length B)) W (times-four e) (a .work);
   room = a .room;
 }

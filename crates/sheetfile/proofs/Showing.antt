@@ -17,8 +17,9 @@ use Rattle.drawing.specs.declared.Framed.{Framed}
 use Rattle.laws.specs.Refusals.{settle-none}
 use Rattle.laws.specs.Search.{Outcome}
 use Rattle.drawing.specs.declared.Framed.the-variants as framed
-use Rattle.drawing.specs.Drawing.{Drawing, lengthsFit, lent, fresh, freshPlaces, frame, layout}
-use Rattle.drawing.specs.DrawingLaws.{all-three}
+use Rattle.drawing.specs.Drawing as drawing
+use Rattle.drawing.specs.Drawing.{Sheet, lengthsFit, lent, fresh, freshPlaces, freshSheet, frame, layout}
+use Rattle.drawing.specs.SheetLaws.{Long, long-fits}
 use Rattle.treefile.specs.TreeFile.{statedNodes, Read}
 use Rattle.text.specs.Text.{sheetOf, Appended}
 use Rattle.text.specs.TextLaws.{appended-is}
@@ -33,36 +34,38 @@ module _ {B X Y : List ℕ} (t : Taken B X Y) where
   table-long : length X ≡ statedNodes B
   table-long = ap length (t .parents) ∙ parents-long B
 
-  pub fits-large : (s : Drawing) (work : ℕ) → length (s .times) ≡ lotsIn (length B) → length (s .x) ≡ lotsIn (length B)
-      → length (s .y) ≡ lotsIn (length B) → work ≡ 4 * lotsIn (length B)
+  -- the lists of a sheet have as many numbers as the file can hold lots
+  pub fits-large : (s : Sheet) (work : ℕ) → Long (lotsIn (length B)) s → work ≡ 4 * lotsIn (length B)
       → tableFault large X Y (lengthsFit X s) work ≡ none
   unfolding tableFault
-  fits-large s work et ex ey ew =
+  fits-large s work long ew =
       let n : lotsIn (length B) ≡ length X = opened .lots ∙ sym table-long in
       orElse-second (shapeFault large X Y (lengthsFit X s) work) (treeFault X Y) (shape-fits (record {
         some = omega (arith, table-long, opened .some);
         few = omega (arith, table-long, opened .few);
         ranks = ap length (t .ranks) ∙ ranks-long B ∙ sym table-long;
-        others = all-three (length X) s (et ∙ n) (ex ∙ n) (ey ∙ n);
+        others = long-fits X s (subst (λ k. Long k s) n long);
         work-long = ew ∙ ap (λ (k : ℕ). 4 * k) n;
       }))
       ∙ ap₂ treeFault (t .parents) (t .ranks) ∙ opened .tree
 
-  pub drawn-fresh : (rule : Rule) (s : Drawing) {u : Drawing} (work : ℕ) {r : Framed}
+  pub drawn-fresh : (rule : Rule) (s : Sheet) {u : Sheet} (work : ℕ) {r : Framed}
       → record { answer = r; left = u } ≡ layout large X Y rule s work
-      → length (s .times) ≡ lotsIn (length B) → length (s .x) ≡ lotsIn (length B)
-      → length (s .y) ≡ lotsIn (length B) → work ≡ 4 * lotsIn (length B) → u ≡ fresh X Y rule
+      → Long (lotsIn (length B)) s → work ≡ 4 * lotsIn (length B) → u ≡ freshSheet X Y rule
   unfolding layout
-  drawn-fresh rule s work l et ex ey ew =
-      let new = fresh X Y rule in
-      ap (λ (o : Outcome Framed Drawing). o .left)
-      (l ∙ settle-none framed.Refused s (frame new) new _ (fits-large s work et ex ey ew))
+  drawn-fresh rule s work l long ew =
+      ap (λ (o : Outcome Framed Sheet). o .left)
+      (l ∙ settle-none framed.Refused s (frame (fresh X Y rule)) (freshSheet X Y rule) _ (fits-large s work long ew))
 
-  -- a fresh drawing has as many times as there are lots
-  pub times-long : (rule : Rule) {u : Drawing} → u ≡ fresh X Y rule → length (u .times) ≡ lotsIn (length B)
+  -- a fresh sheet has as many times and held edges as there are lots
+  pub times-long : (rule : Rule) {u : Sheet} → u ≡ freshSheet X Y rule → length (u .drawing .times) ≡ lotsIn (length B)
   unfolding fresh
   times-long rule e =
-      ap (λ (d : Drawing). length (d .times)) e ∙ length-replicate (length X) 1 ∙ table-long ∙ sym (opened .lots)
+      ap (λ (d : Sheet). length (d .drawing .times)) e ∙ length-replicate (length X) 1 ∙ table-long ∙ sym (opened .lots)
+
+  pub held-long : (rule : Rule) {u : Sheet} → u ≡ freshSheet X Y rule → length (u .held) ≡ lotsIn (length B)
+  held-long rule e =
+      ap (λ (d : Sheet). length (d .held)) e ∙ length-replicate (length X) 0 ∙ table-long ∙ sym (opened .lots)
 
   x-long : (rule : Rule) → length (fresh X Y rule .x) ≡ statedNodes B
   unfolding fresh freshPlaces
@@ -72,18 +75,18 @@ module _ {B X Y : List ℕ} (t : Taken B X Y) where
   unfolding fresh freshPlaces
   y-long rule = length-tabulate (length X) _ ∙ table-long
 
-  module _ {S T x y u w : List ℕ} (steep : lent S x y ≡ fresh X Y Steep) (balanced : lent T u w
-      ≡ fresh X Y Balanced) where
+  module _ {S T x y u w G H : List ℕ} (steep : drawing.sheetOf (lent S x y) G ≡ freshSheet X Y Steep)
+      (balanced : drawing.sheetOf (lent T u w) H ≡ freshSheet X Y Balanced) where
     steep-long : length x ≡ statedNodes B
-    steep-long = ap (λ (d : Drawing). length (d .x)) steep ∙ x-long Steep
+    steep-long = ap (λ (d : Sheet). length (d .drawing .x)) steep ∙ x-long Steep
 
     pub both-lines : {A : List ℕ} → 30 + 55 * lotsIn (length B) ≤ length A
         → Lines (placesOf x y u w) (length x) A 17
     both-lines room = record {
       steep-x = refl;
-      steep-y = ap (λ (d : Drawing). length (d .y)) steep ∙ y-long Steep ∙ sym steep-long;
-      balanced-x = ap (λ (d : Drawing). length (d .x)) balanced ∙ x-long Balanced ∙ sym steep-long;
-      balanced-y = ap (λ (d : Drawing). length (d .y)) balanced ∙ y-long Balanced ∙ sym steep-long;
+      steep-y = ap (λ (d : Sheet). length (d .drawing .y)) steep ∙ y-long Steep ∙ sym steep-long;
+      balanced-x = ap (λ (d : Sheet). length (d .drawing .x)) balanced ∙ x-long Balanced ∙ sym steep-long;
+      balanced-y = ap (λ (d : Sheet). length (d .drawing .y)) balanced ∙ y-long Balanced ∙ sym steep-long;
       few = omega (arith, steep-long, opened .few);
       room = omega (arith, room, steep-long, opened .lots);
     }
@@ -93,7 +96,8 @@ module _ {B X Y : List ℕ} (t : Taken B X Y) where
     unfolding placesOfTable
     both-shown a =
         appended-is a
-        ((λ i. sheetOf (placesOf (steep i .x) (steep i .y) (balanced i .x) (balanced i .y)) (steep-long i))
+        ((λ i. sheetOf (placesOf (steep i .drawing .x) (steep i .drawing .y) (balanced i .drawing .x)
+        (balanced i .drawing .y)) (steep-long i))
         ∙ sym (accepted-text t))
 
 -- the reader was called with the program's limits

@@ -44,7 +44,7 @@ unfoldable pub lotsIn : ℕ → ℕ
 lotsIn m = min ((m - 4) / 8) (printed .nodes)
 
 -- lists of exactly the lots that the file can hold, and room for the text
-pub record Fitting (B P R T x y u w W out : List ℕ) : Type 0 where
+pub record Fitting (B P R T x y u w H W out : List ℕ) : Type 0 where
   pub parent : length P ≡ lotsIn (length B)
   pub rank : length R ≡ lotsIn (length B)
   pub times : length T ≡ lotsIn (length B)
@@ -52,11 +52,12 @@ pub record Fitting (B P R T x y u w W out : List ℕ) : Type 0 where
   pub steep-y : length y ≡ lotsIn (length B)
   pub balanced-x : length u ≡ lotsIn (length B)
   pub balanced-y : length w ≡ lotsIn (length B)
+  pub held : length H ≡ lotsIn (length B)
   pub work : length W ≡ 4 * lotsIn (length B)
   pub room : 30 + 55 * lotsIn (length B) ≤ length out
 
 -- lists of as many or more
-pub record Ample (B P R T x y u w W out : List ℕ) : Type 0 where
+pub record Ample (B P R T x y u w H W out : List ℕ) : Type 0 where
   pub parent : lotsIn (length B) ≤ length P
   pub rank : lotsIn (length B) ≤ length R
   pub times : lotsIn (length B) ≤ length T
@@ -64,5 +65,6 @@ pub record Ample (B P R T x y u w W out : List ℕ) : Type 0 where
   pub steep-y : lotsIn (length B) ≤ length y
   pub balanced-x : lotsIn (length B) ≤ length u
   pub balanced-y : lotsIn (length B) ≤ length w
+  pub held : lotsIn (length B) ≤ length H
   pub work : 4 * lotsIn (length B) ≤ length W
   pub room : 30 + 55 * lotsIn (length B) ≤ length out

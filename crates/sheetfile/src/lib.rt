@@ -32,19 +32,20 @@ fn fitted_text(
     y: &mut [u32],
     u: &mut [u32],
     w: &mut [u32],
+    held: &mut [u32],
     work: &mut [u32],
     out: &mut [u8],
 ) -> usize
-    requires { ⌜ Fitting (now bytes) (now parent) (now rank) (now times) (now x) (now y) (now u) (now w) (now work)
-        (now out) ⌝ }
+    requires { ⌜ Fitting (now bytes) (now parent) (now rank) (now times) (now x) (now y) (now u) (now w) (now held)
+        (now work) (now out) ⌝ }
     ensures { λ r. ⌜ Appended (now (out .entry)) (now (out .exit)) 0 r (sheetText (now (bytes .entry))) ⌝ }
 {
     let limits = printed_limits();
     match read_tree_within(limits, bytes, parent, rank, work) {
         Counted::Refused(number, lot) => put_refusal(out, number, lot),
         Counted::Nodes(_) => {
-            layout(Rule::Steep, parent, rank, times, x, y, work);
-            layout(Rule::Balanced, parent, rank, times, u, w, work);
+            layout(Rule::Steep, parent, rank, times, x, y, held, work);
+            layout(Rule::Balanced, parent, rank, times, u, w, held, work);
             put_sheet(out, x, y, u, w)
         }
     }
@@ -61,11 +62,12 @@ pub fn sheet_text(
     y: &mut [u32],
     u: &mut [u32],
     w: &mut [u32],
+    held: &mut [u32],
     work: &mut [u32],
     out: &mut [u8],
 ) -> usize
-    requires { ⌜ Ample (now bytes) (now parent) (now rank) (now times) (now x) (now y) (now u) (now w) (now work)
-        (now out) ⌝ }
+    requires { ⌜ Ample (now bytes) (now parent) (now rank) (now times) (now x) (now y) (now u) (now w) (now held)
+        (now work) (now out) ⌝ }
     ensures { λ r. ⌜ Appended (now (out .entry)) (now (out .exit)) 0 r (sheetText (now (bytes .entry))) ⌝ }
 {
     let n = lots_in(bytes);
@@ -78,6 +80,7 @@ pub fn sheet_text(
         &mut y[..n],
         &mut u[..n],
         &mut w[..n],
+        &mut held[..n],
         &mut work[..4 * n],
         out,
     )

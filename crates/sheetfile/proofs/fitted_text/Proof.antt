@@ -2,7 +2,8 @@
 use mathlib.Core.Path.{sym, _∙_}
 use Rattle.text.specs.TextLaws.{appended-is}
 use Rattle.sheetfile.specs.SheetFileLaws.{refused-text, taken}
-use Rattle.sheetfile.proofs.Showing.{drawn-fresh, times-long, both-lines, both-shown, at-limits}
+use Rattle.sheetfile.proofs.Showing.{drawn-fresh, times-long, held-long, both-lines, both-shown}
+use Rattle.sheetfile.proofs.Showing.{at-limits}
 use borrow.Author.Needs.{needs}
 use Rattle.sheetfile.proofs.fitted_text.Statement.{statement}
 use Rattle.sheetfile.proofs.fitted_text.Tie as tie
@@ -16,24 +17,26 @@ module _ (c : tie.After-read-tree-within) where
   limits = c .before .before .before .before
 
   abbrev start : tie.Start
-  start = limits .before .before .before .before .before .before .before .before .before .before .before
+  start = limits .before .before .before .before .before .before .before .before .before .before .before .before
 
 -- once its table is laid out under both rules
 module _ (c : tie.After-layout2) where
   abbrev first : tie.After-layout
   first =
       c .before .before .before .before .before .before .before .before .before .before .before .before .before .before
-      .before
+      .before .before .before .before
 
   abbrev accepted : tie.After-enum-told
-  accepted = first .before .before .before .before .before .before .before
+  accepted = first .before .before .before .before .before .before .before .before
 
   abbrev reading : tie.After-read-tree-within
   reading = accepted .before .before .before .before .before .before .before .before
 
 -- and when its sheet is printed
 abbrev laid : tie.After-put-sheet-arg5 → tie.After-layout2
-laid c = c .before .before .before .before .before .before .before .before .before .before .before .before .before
+laid c =
+    c .before .before .before .before .before .before .before .before .before .before .before .before .before .before
+    .before
 
 ------------------------------------------------------------------------
 -- Needs
@@ -49,11 +52,15 @@ put-sheet-requires c κs =
     (given .parent)
     (given .rank) (given .work) (accepted second .enum-told .given .1) in
     let steep =
-    drawn-fresh table _ _ _ (first second .layout .ensures .says) (given .times) (given .steep-x)
-    (given .steep-y) work in
+    drawn-fresh table _ _ _ (first second .layout .ensures .says)
+    (record { times = given .times; x = given .steep-x; y = given .steep-y; held = given .held }) work in
     let balanced =
-    drawn-fresh table _ _ _ (second .layout2 .ensures .says) (times-long table _ steep) (given .balanced-x)
-    (given .balanced-y) (first second .layout .ensures .long ∙ work) in
+    drawn-fresh table _ _ _ (second .layout2 .ensures .says) (record {
+      times = times-long table _ steep;
+      x = given .balanced-x;
+      y = given .balanced-y;
+      held = held-long table _ steep;
+    }) (first second .layout .ensures .long ∙ work) in
     both-lines table steep balanced (given .room)
 
 returns : tie.Need-returns
@@ -73,8 +80,8 @@ same-length-5 c = reading (laid (c .before .before .before)) .read-tree-within .
 same-length-6 : tie.Need-same-length-6
 same-length-6 c = reading (laid (c .before .before .before)) .read-tree-within .kept .1 .1 .1 .0
 
-same-length-12 : tie.Need-same-length-12
-same-length-12 c =
+same-length-13 : tie.Need-same-length-13
+same-length-13 c =
     let second = laid (c .before .before .before) in
     second .layout2 .ensures .long ∙ first second .layout .ensures .long
     ∙ reading second .read-tree-within .ensures .long
@@ -91,11 +98,15 @@ returns-2 c =
     (given .parent)
     (given .rank) (given .work) (accepted second .enum-told .given .1) in
     let steep =
-    drawn-fresh table _ _ _ (first second .layout .ensures .says) (given .times) (given .steep-x)
-    (given .steep-y) work in
+    drawn-fresh table _ _ _ (first second .layout .ensures .says)
+    (record { times = given .times; x = given .steep-x; y = given .steep-y; held = given .held }) work in
     let balanced =
-    drawn-fresh table _ _ _ (second .layout2 .ensures .says) (times-long table _ steep) (given .balanced-x)
-    (given .balanced-y) (first second .layout .ensures .long ∙ work) in
+    drawn-fresh table _ _ _ (second .layout2 .ensures .says) (record {
+      times = times-long table _ steep;
+      x = given .balanced-x;
+      y = given .balanced-y;
+      held = held-long table _ steep;
+    }) (first second .layout .ensures .long ∙ work) in
     both-shown table steep balanced (written .put-sheet .ensures)
 
 pub fitted-text-spec : {M : Type 1} → statement M
@@ -105,5 +116,6 @@ fitted-text-spec = tie.close (tie.spec (λ c κs. search needs) (λ c κs. searc
     returns
     same-length-5
     same-length-6 (λ c. search needs) (λ c. search needs) (λ c. search needs) (λ c. search needs) (λ c. search needs)
-    same-length-12 (λ c. search needs)
+    (λ c. search needs)
+    same-length-13 (λ c. search needs)
     returns-2)

@@ -5,7 +5,7 @@ use Rattle.sheetfile.proofs.sheet_text.Statement.{statement}
 use Rattle.sheetfile.proofs.sheet_text.Tie as tie
 
 abbrev start : tie.After-lots-in → tie.Start
-start c = c .before .before .before .before .before .before .before .before .before .before .before
+start c = c .before .before .before .before .before .before .before .before .before .before .before .before
 
 abbrev counted : tie.After-fitted-text-arg5 → tie.After-lots-in
 counted c = c .before .before .before .before .before
@@ -44,11 +44,16 @@ slice-aggregate-fitted-text-7 c =
 slice-aggregate-fitted-text-8 : tie.Need-slice-aggregate-fitted-text-8
 slice-aggregate-fitted-text-8 c =
     let at-lots-in = counted (c .before .before .before) in
+    cut-whole _ _ _ (at-lots-in .lots-in .ensures) (start at-lots-in .pre .held)
+
+slice-aggregate-fitted-text-9 : tie.Need-slice-aggregate-fitted-text-9
+slice-aggregate-fitted-text-9 c =
+    let at-lots-in = counted (c .before .before .before .before) in
     cut-whole _ _ _ (times-four (at-lots-in .lots-in .ensures)) (start at-lots-in .pre .work)
 
 fitted-text-requires : tie.Need-fitted-text-requires
 fitted-text-requires c κs =
-    let at-lots-in = counted (c .before .before .before .before) in
+    let at-lots-in = counted (c .before .before .before .before .before) in
     fitting _ (at-lots-in .lots-in .ensures) (start at-lots-in .pre)
 
 pub sheet-text-spec : {M : Type 1} → statement M
@@ -59,8 +64,9 @@ sheet-text-spec = tie.close (tie.spec (λ c κs. search needs) (λ c. search nee
     slice-aggregate-fitted-text-4 (λ c. search needs)
     slice-aggregate-fitted-text-5 (λ c. search needs)
     slice-aggregate-fitted-text-6 (λ c. search needs)
-    slice-aggregate-fitted-text-7 (λ c. search needs) (λ c. search needs)
-    slice-aggregate-fitted-text-8
+    slice-aggregate-fitted-text-7 (λ c. search needs)
+    slice-aggregate-fitted-text-8 (λ c. search needs) (λ c. search needs)
+    slice-aggregate-fitted-text-9
     fitted-text-requires (λ c. search needs) (λ c. search needs) (λ c. search needs) (λ c. search needs)
     (λ c. search needs) (λ c. search needs) (λ c. search needs) (λ c. search needs) (λ c. search needs)
-    (λ c. search needs))
+    (λ c. search needs) (λ c. search needs))
