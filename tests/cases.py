@@ -3,7 +3,7 @@
 slopes of 1 to 16 levels with their levels less 1.
 
 Written from document 01 (tree table, traversal, slopes, layout, lengthen, shorten, check, refusals) and document 02
-(frames, levels), not from the Rattle code. It takes a minute or two.
+(frames, levels, held lines), not from the Rattle code. It takes a minute or two.
     python3 tests/cases.py > crates/cases/stdout
 """
 LIMIT = 2147483647
@@ -61,7 +61,7 @@ class Tree:
 class Sheet:
     def __init__(self, tree, rule):
         self.tree, n = tree, tree.n
-        self.times, self.x, self.y = [0] * n, [0] * n, [0] * n
+        self.times, self.x, self.y, self.held = [0] * n, [0] * n, [0] * n, [0] * n
         if n > LOTS:
             return
         order = slopes(rule, n)
@@ -75,13 +75,27 @@ class Sheet:
     def frame(self):
         return (1, max(self.x) + 1, max(self.y) + 1) if self.tree.n <= LOTS else (0, 2, 0)
 
-    def move(self, longer, v, c):
+    def refusal(self, v):
+        """What every call on a lot refuses, or None: the lists are this program's own, and so a sheet."""
         if self.tree.n > LOTS:
             return (0, 2, 0)
         if v >= self.tree.n:
             return (0, 9, 0)
-        if v == 0:
-            return (0, 10, 0)
+        return (0, 10, 0) if v == 0 else None
+
+    def hold(self, v, yes):
+        refused = self.refusal(v)
+        if refused:
+            return refused
+        self.held[v] = yes
+        return self.frame()
+
+    def move(self, longer, v, c):
+        refused = self.refusal(v)
+        if refused:
+            return refused
+        if self.held[v]:
+            return (0, 22, v)
         if not longer and c >= self.times[v]:
             return (0, 12, v)
         d = c if longer else -c
@@ -178,7 +192,7 @@ def show(*numbers):
 
 
 def whole(sheet):
-    return mixed(sheet.times), mixed(sheet.x), mixed(sheet.y)
+    return mixed(sheet.times), mixed(sheet.x), mixed(sheet.y), mixed(sheet.held)
 
 
 def case(shape, relabelled, rule, n):
@@ -186,11 +200,13 @@ def case(shape, relabelled, rule, n):
     sheet = Sheet(tree, rule)
     show(n, shape, relabelled, rule, *sheet.frame(), *whole(sheet))
     half, last = n // 2, n - 1
-    for longer, v, c in [
-        (1, half, 1), (1, last, 1000), (1, 1, 0), (1, 0, 1), (1, n, 1), (1, half, 4294967295), (0, half, 2),
-        (0, half, 1), (0, last, 1001), (0, last, 999), (1, n // 3, 70000),
+    for kind, v, c in [  # 1 lengthens, 0 shortens, 2 holds or, with 0, frees
+        (1, half, 1), (1, last, 1000), (2, half, 1), (1, half, 0), (0, half, 1), (1, n // 4, 1), (2, 0, 1), (2, n, 0),
+        (2, half, 0), (1, 1, 0), (1, 0, 1), (1, n, 1), (1, half, 4294967295), (0, half, 2), (0, half, 1),
+        (0, last, 1001), (0, last, 999), (2, last, 1), (1, n // 3, 70000),
     ]:
-        show(longer, v, c, *sheet.move(longer, v, c), *whole(sheet))
+        answer = sheet.hold(v, c) if kind == 2 else sheet.move(kind, v, c)
+        show(kind, v, c, *answer, *whole(sheet))
     for k in reversed(range(32)):  # the middle lot as far as it goes
         sheet.move(1, half, 2**k)
     show(1, half, 1, *sheet.move(1, half, 1), *whole(sheet))

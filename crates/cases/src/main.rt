@@ -1,8 +1,8 @@
 // The walks to all balanced slopes of 1 to 16 levels, a line for each number of levels; then large trees of several
 // shapes under both rules: layout, a list of calls and the check, with a line for each answer.
 //
-// Each line ends with three lists, each mixed into one number. What is printed is compared with the output of
-// tests/cases.py, which makes the same calls in plain Python.
+// Each line ends with its lists, each mixed into one number: three, or the four of a sheet. What is printed is compared
+// with the output of tests/cases.py, which makes the same calls in plain Python.
 use drawing::Framed;
 use monotone::Verdict;
 use slopes::Rule;
@@ -18,9 +18,9 @@ struct Case {
     size: usize,
 }
 
-// A call of the list: whether it lengthens or shortens, whose edge, and by how much.
+// A call of the list: 1 lengthens, 0 shortens and 2 holds, or frees where the count is 0; whose edge, and by how much.
 struct Call {
-    longer: bool,
+    kind: u32,
     node: u32,
     count: u32,
 }
@@ -89,6 +89,13 @@ fn show_mixed(a: u64, b: u64, c: u64) {
 // Three lists, and the line's end.
 fn show_lists(a: &[u32], x: &[u32], y: &[u32]) {
     show_mixed(mixed(a), mixed(x), mixed(y));
+}
+
+// The lists of a sheet, and the line's end.
+fn show_sheet(times: &[u32], x: &[u32], y: &[u32], held: &[u32]) {
+    io::print_decimal(1, mixed(times));
+    io::write_all(1, b" ");
+    show_lists(x, y, held);
 }
 
 // The walks to the slopes of k levels, in order: k, then the across parts, the up parts and the numbers of turns.
@@ -211,15 +218,16 @@ fn show_layout(
     times: &mut [u32],
     x: &mut [u32],
     y: &mut [u32],
+    held: &mut [u32],
     work: &mut [u32],
 ) {
-    let answer = drawing::layout(rule, parent, rank, times, x, y, work);
+    let answer = drawing::layout(rule, parent, rank, times, x, y, held, work);
     show_framed(answer);
-    show_lists(times, x, y);
+    show_sheet(times, x, y, held);
 }
 
-// Lengthens or shortens.
-fn stretch(
+// Lengthens, shortens, holds or frees.
+fn make(
     call: Call,
     rule: Rule,
     parent: &[u32],
@@ -227,14 +235,29 @@ fn stretch(
     times: &mut [u32],
     x: &mut [u32],
     y: &mut [u32],
+    held: &mut [u32],
     work: &mut [u32],
 ) -> Framed {
     let node = call.node;
     let count = call.count;
-    if call.longer {
-        return stretching::lengthen(rule, parent, rank, times, x, y, work, node, count);
+    if call.kind == 1 {
+        return stretching::lengthen(rule, parent, rank, times, x, y, held, work, node, count);
     }
-    stretching::shorten(rule, parent, rank, times, x, y, work, node, count)
+    if call.kind == 0 {
+        return stretching::shorten(rule, parent, rank, times, x, y, held, work, node, count);
+    }
+    holding::hold(
+        rule,
+        parent,
+        rank,
+        times,
+        x,
+        y,
+        held,
+        work,
+        node,
+        count != 0,
+    )
 }
 
 // One call, its answer and what it leaves.
@@ -246,28 +269,37 @@ fn show_call(
     times: &mut [u32],
     x: &mut [u32],
     y: &mut [u32],
+    held: &mut [u32],
     work: &mut [u32],
 ) {
-    show_three(call.longer as u32, call.node, call.count);
-    let answer = stretch(call, rule, parent, rank, times, x, y, work);
+    show_three(call.kind, call.node, call.count);
+    let answer = make(call, rule, parent, rank, times, x, y, held, work);
     show_framed(answer);
-    show_lists(times, x, y);
+    show_sheet(times, x, y, held);
+}
+
+fn of(kind: u32, node: u32, count: u32) -> Call {
+    Call {
+        kind: kind,
+        node: node,
+        count: count,
+    }
 }
 
 fn longer(node: u32, count: u32) -> Call {
-    Call {
-        longer: true,
-        node: node,
-        count: count,
-    }
+    of(1, node, count)
 }
 
 fn shorter(node: u32, count: u32) -> Call {
-    Call {
-        longer: false,
-        node: node,
-        count: count,
-    }
+    of(0, node, count)
+}
+
+fn held(node: u32) -> Call {
+    of(2, node, 1)
+}
+
+fn freed(node: u32) -> Call {
+    of(2, node, 0)
 }
 
 // The i-th call on a drawing of n nodes, of which `last` is the last: accepted counts, and refused ones beside them.
@@ -275,14 +307,22 @@ fn call_at(i: usize, n: u32, last: u32) -> Call {
     match i {
         0 => longer(n / 2, 1),
         1 => longer(last, 1000),
-        2 => longer(1, 0),
-        3 => longer(0, 1),
-        4 => longer(n, 1),
-        5 => longer(n / 2, 4294967295),
-        6 => shorter(n / 2, 2),
-        7 => shorter(n / 2, 1),
-        8 => shorter(last, 1001),
-        9 => shorter(last, 999),
+        2 => held(n / 2),
+        3 => longer(n / 2, 0),
+        4 => shorter(n / 2, 1),
+        5 => longer(n / 4, 1),
+        6 => held(0),
+        7 => freed(n),
+        8 => freed(n / 2),
+        9 => longer(1, 0),
+        10 => longer(0, 1),
+        11 => longer(n, 1),
+        12 => longer(n / 2, 4294967295),
+        13 => shorter(n / 2, 2),
+        14 => shorter(n / 2, 1),
+        15 => shorter(last, 1001),
+        16 => shorter(last, 999),
+        17 => held(last),
         _ => longer(n / 3, 70000),
     }
 }
@@ -295,14 +335,15 @@ fn calls(
     times: &mut [u32],
     x: &mut [u32],
     y: &mut [u32],
+    held: &mut [u32],
     work: &mut [u32],
 ) {
     let n = (parent.len() % 4294967296) as u32;
     let last = (before(parent.len()) % 4294967296) as u32;
     let mut i = 0;
-    while i < 11 {
+    while i < 19 {
         let call = call_at(i, n, last);
-        show_call(call, rule, parent, rank, times, x, y, work);
+        show_call(call, rule, parent, rank, times, x, y, held, work);
         i += 1;
     }
 }
@@ -316,18 +357,35 @@ fn reach(
     times: &mut [u32],
     x: &mut [u32],
     y: &mut [u32],
+    held: &mut [u32],
     work: &mut [u32],
 ) {
     let mut count = 2147483648;
     while 0 < count {
-        stretching::lengthen(rule, parent, rank, times, x, y, work, node, count);
+        stretching::lengthen(rule, parent, rank, times, x, y, held, work, node, count);
         count /= 2;
     }
-    let call = longer(node, 1);
-    show_call(call, rule, parent, rank, times, x, y, work);
+    let last = longer(node, 1);
+    show_call(last, rule, parent, rank, times, x, y, held, work);
 }
 
-// The fresh drawing, the list of calls on it, and the edge of its middle node lengthened as far as it goes.
+// The list of calls, and the edge of the middle node lengthened as far as it goes.
+fn stretch(
+    rule: Rule,
+    parent: &[u32],
+    rank: &[u32],
+    times: &mut [u32],
+    x: &mut [u32],
+    y: &mut [u32],
+    held: &mut [u32],
+    work: &mut [u32],
+) {
+    calls(rule, parent, rank, times, x, y, held, work);
+    let middle = (parent.len() / 2 % 4294967296) as u32;
+    reach(middle, rule, parent, rank, times, x, y, held, work);
+}
+
+// The fresh sheet, and what is made of it.
 fn draw(
     rule: Rule,
     parent: &[u32],
@@ -335,12 +393,11 @@ fn draw(
     times: &mut [u32],
     x: &mut [u32],
     y: &mut [u32],
+    held: &mut [u32],
     work: &mut [u32],
 ) {
-    show_layout(rule, parent, rank, times, x, y, work);
-    calls(rule, parent, rank, times, x, y, work);
-    let middle = (parent.len() / 2 % 4294967296) as u32;
-    reach(middle, rule, parent, rank, times, x, y, work);
+    show_layout(rule, parent, rank, times, x, y, held, work);
+    stretch(rule, parent, rank, times, x, y, held, work);
 }
 
 // The check's answer.
@@ -372,6 +429,7 @@ fn plant(
     times: &mut [u32],
     x: &mut [u32],
     y: &mut [u32],
+    held: &mut [u32],
     work: &mut [u32],
 ) {
     clear(parent);
@@ -379,8 +437,24 @@ fn plant(
     clear(times);
     clear(x);
     clear(y);
+    clear(held);
     clear(work);
     grow(case.shape, case.relabelled, parent, rank, work);
+}
+
+// The sheet is drawn and checked.
+fn draw_and_judge(
+    rule: Rule,
+    parent: &[u32],
+    rank: &[u32],
+    times: &mut [u32],
+    x: &mut [u32],
+    y: &mut [u32],
+    held: &mut [u32],
+    work: &mut [u32],
+) {
+    draw(rule, parent, rank, times, x, y, held, work);
+    judge_twice(parent, rank, x, y, work);
 }
 
 // The tree of the case is drawn and checked.
@@ -391,14 +465,14 @@ fn whole_case(
     times: &mut [u32],
     x: &mut [u32],
     y: &mut [u32],
+    held: &mut [u32],
     work: &mut [u32],
 ) {
     show((parent.len() % 4294967296) as u32);
     show_three(case.shape, case.relabelled as u32, case.balanced as u32);
-    plant(case, parent, rank, times, x, y, work);
+    plant(case, parent, rank, times, x, y, held, work);
     let rule = rule_of(case.balanced);
-    draw(rule, parent, rank, times, x, y, work);
-    judge_twice(parent, rank, x, y, work);
+    draw_and_judge(rule, parent, rank, times, x, y, held, work);
 }
 
 // The case on the first n numbers of each list, and 4n of the work list.
@@ -409,10 +483,17 @@ fn sized_case(
     times: &mut [u32],
     x: &mut [u32],
     y: &mut [u32],
+    held: &mut [u32],
     work: &mut [u32],
 ) {
     let n = case.size;
-    if parent.len() < n || rank.len() < n || times.len() < n || x.len() < n || y.len() < n {
+    if parent.len() < n
+        || rank.len() < n
+        || times.len() < n
+        || x.len() < n
+        || y.len() < n
+        || held.len() < n
+    {
         return;
     }
     if work.len() / 4 < n {
@@ -425,6 +506,7 @@ fn sized_case(
         &mut times[..n],
         &mut x[..n],
         &mut y[..n],
+        &mut held[..n],
         &mut work[..4 * n],
     );
 }
@@ -457,12 +539,13 @@ fn cases(
     times: &mut [u32],
     x: &mut [u32],
     y: &mut [u32],
+    held: &mut [u32],
     work: &mut [u32],
 ) {
     let mut i = 0;
     while i < 40 {
         let case = case_at(i);
-        sized_case(case, parent, rank, times, x, y, work);
+        sized_case(case, parent, rank, times, x, y, held, work);
         i += 1;
     }
 }
@@ -474,6 +557,7 @@ fn main() {
     let mut times = [0u32; 65537];
     let mut x = [0u32; 65537];
     let mut y = [0u32; 65537];
+    let mut held = [0u32; 65537];
     let mut work = [0u32; 262148];
     cases(
         &mut parent,
@@ -481,6 +565,7 @@ fn main() {
         &mut times,
         &mut x,
         &mut y,
+        &mut held,
         &mut work,
     );
 }

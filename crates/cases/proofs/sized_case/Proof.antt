@@ -23,6 +23,9 @@ slice-relend-prefix-whole-case-5 c = search needs
 slice-relend-prefix-whole-case-6 : tie.Need-slice-relend-prefix-whole-case-6
 slice-relend-prefix-whole-case-6 c = search needs
 
+slice-relend-prefix-whole-case-7 : tie.Need-slice-relend-prefix-whole-case-7
+slice-relend-prefix-whole-case-7 c = search needs
+
 pub sized-case-spec : {M : Type 1} → statement M
 sized-case-spec = tie.close (tie.spec (λ c. search needs) (λ c. search needs)
     slice-relend-prefix-whole-case
@@ -34,8 +37,10 @@ sized-case-spec = tie.close (tie.spec (λ c. search needs) (λ c. search needs)
     slice-relend-prefix-whole-case-4
     (λ c. simp length-take (omega (arith, slice-relend-prefix-whole-case-4 (c .before))))
     slice-relend-prefix-whole-case-5
-    (λ c. simp length-take (omega (arith, slice-relend-prefix-whole-case-5 (c .before)))) (λ c. search needs)
+    (λ c. simp length-take (omega (arith, slice-relend-prefix-whole-case-5 (c .before))))
     slice-relend-prefix-whole-case-6
-    (λ c. simp length-take (omega (arith, slice-relend-prefix-whole-case-6 (c .before)))) (λ c κs. search needs)
+    (λ c. simp length-take (omega (arith, slice-relend-prefix-whole-case-6 (c .before)))) (λ c. search needs)
+    slice-relend-prefix-whole-case-7
+    (λ c. simp length-take (omega (arith, slice-relend-prefix-whole-case-7 (c .before)))) (λ c κs. search needs)
     (λ c. search needs) (λ c. search needs) (λ c. search needs) (λ c. search needs) (λ c. search needs)
-    (λ c. search needs) (λ c. search needs))
+    (λ c. search needs) (λ c. search needs) (λ c. search needs))
