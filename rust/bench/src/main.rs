@@ -3,6 +3,8 @@
 //!
 //!     cargo run --release -p bench [-- ROUNDS]
 
+use lineage::raw;
+
 /// The thread's own time in microseconds, which other programs on the machine do not count in.
 fn now() -> f64 {
     #[repr(C)]
@@ -23,8 +25,11 @@ fn now() -> f64 {
 /// The plain C version's calls, which have the types of the proved ones.
 mod plain_c {
     lineage::calls!(
-        plain_layout,
-        [lengthen = plain_lengthen, shorten = plain_shorten],
+        [
+            layout = plain_layout(),
+            lengthen = plain_lengthen(lot: u32, count: u32),
+            shorten = plain_shorten(lot: u32, count: u32)
+        ],
         plain_direction,
         plain_post_numbers,
         plain_check,
@@ -93,18 +98,11 @@ on_lists!(plain, super::plain_c);
 struct Lists {
     parent: Vec<u32>,
     rank: Vec<u32>,
-    sheets: [Sheet; 2],
+    sheets: [raw::Lists; 2],
     work: Vec<u32>,
     bytes: Vec<u8>,
     reply: [i64; 3],
     lot: u32,
-}
-
-#[derive(Clone, PartialEq)]
-struct Sheet {
-    times: Vec<u32>,
-    x: Vec<u32>,
-    y: Vec<u32>,
 }
 
 impl Lists {
@@ -114,28 +112,16 @@ impl Lists {
 
     /// Brings the lists into the processor's caches, so that no call is the first to read them.
     fn read(&self) {
-        let [steep, balanced] = &self.sheets;
-        for list in
-            [&self.parent, &self.rank, &steep.times, &steep.x, &steep.y, &balanced.times, &balanced.x, &balanced.y]
-        {
+        for list in [&self.parent, &self.rank].into_iter().chain(self.sheets.iter().flat_map(raw::Lists::each)) {
             std::hint::black_box(list.iter().fold(0, |a, b| a ^ b));
         }
     }
 }
 
-impl Sheet {
-    fn of(n: usize) -> Sheet {
-        Sheet { times: vec![0; n], x: vec![0; n], y: vec![0; n] }
-    }
-
-    fn lent(&mut self) -> lineage::raw::Lists<'_> {
-        lineage::raw::Lists { times: &mut self.times, x: &mut self.x, y: &mut self.y }
-    }
-
-    fn restore(&mut self, kept: &Sheet) {
-        self.times.copy_from_slice(&kept.times);
-        self.x.copy_from_slice(&kept.x);
-        self.y.copy_from_slice(&kept.y);
+/// Puts back what a sheet held, where it lies.
+fn restore(sheet: &mut raw::Lists, kept: &raw::Lists) {
+    for (list, kept) in sheet.each_mut().into_iter().zip(kept.each()) {
+        list.copy_from_slice(kept);
     }
 }
 
@@ -177,7 +163,7 @@ fn lists(shape: &str, n: usize, seed: u64) -> Lists {
         rank[name[v]] = count[p];
         count[p] += 1;
     }
-    let sheets = [Sheet::of(n), Sheet::of(n)];
+    let sheets = [raw::Lists::of(n), raw::Lists::of(n)];
     Lists { parent, rank, sheets, work: vec![0; 4 * n], bytes: vec![0; 4 + 8 * n], reply: [0; 3], lot: 1 }
 }
 
@@ -238,7 +224,7 @@ fn in_turn(rounds: usize, trees: &mut [Lists], rules: &[bool], calls: [Call; 2])
         rules.iter().for_each(|&b| compare(l, b, calls));
     }
     let count = trees.len();
-    let kept: Vec<[Sheet; 2]> = trees.iter().map(|l| l.sheets.clone()).collect();
+    let kept: Vec<[raw::Lists; 2]> = trees.iter().map(|l| l.sheets.clone()).collect();
     let mut took = vec![<[Took; 2]>::default(); rules.len()];
     for round in 0..count + rounds {
         let mut replies = vec![None; rules.len()];
@@ -253,7 +239,7 @@ fn in_turn(rounds: usize, trees: &mut [Lists], rules: &[bool], calls: [Call; 2])
                 let reply = *replies[i].get_or_insert(l.reply);
                 assert_eq!(reply, l.reply, "the two differ");
                 assert_ne!(reply[0], 0, "refused: {reply:?}");
-                l.sheets[usize::from(b)].restore(&kept[tree][usize::from(b)]);
+                restore(&mut l.sheets[usize::from(b)], &kept[tree][usize::from(b)]);
                 if round >= count {
                     took[i][library].0.push(time);
                 }

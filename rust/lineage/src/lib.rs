@@ -315,9 +315,7 @@ pub fn direction(tree: &Tree, rule: Rule, from: u32, to: u32) -> Result<Directio
 pub struct Sheet {
     tree: Tree,
     rule: Rule,
-    times: Vec<u32>,
-    x: Vec<u32>,
-    y: Vec<u32>,
+    lists: raw::Lists,
     work: Vec<u32>,
     frame: Frame,
 }
@@ -325,12 +323,9 @@ pub struct Sheet {
 impl Sheet {
     /// The fresh sheet, with every times 1.
     pub fn new(tree: Tree, rule: Rule) -> Result<Sheet, Refused> {
-        let n = tree.lots();
-        let (times, x, y, work) = (vec![0; n], vec![0; n], vec![0; n], vec![0; 4 * n]);
-        let mut sheet = Sheet { tree, rule, times, x, y, work, frame: CELL };
-        let (balanced, parent, rank, lists, work) = sheet.lent();
-        let answer = asked(Call::Layout, |reply| raw::layout(balanced, parent, rank, lists, work, reply));
-        sheet.framed(answer)?;
+        let lists = raw::Lists::of(tree.lots());
+        let mut sheet = Sheet::unasked(tree, rule, lists);
+        sheet.ask(Call::Layout, raw::layout)?;
         Ok(sheet)
     }
 
@@ -358,8 +353,7 @@ impl Sheet {
     /// # Ok::<(), Refused>(())
     /// ```
     pub fn from_lists(tree: Tree, rule: Rule, times: Vec<u32>, x: Vec<u32>, y: Vec<u32>) -> Result<Sheet, Refused> {
-        let work = vec![0; 4 * tree.lots()];
-        let mut sheet = Sheet { tree, rule, times, x, y, work, frame: CELL };
+        let mut sheet = Sheet::unasked(tree, rule, raw::Lists { times, x, y });
         match sheet.lengthen(1, 0) {
             // one lot has no edge to lengthen; 9 comes after 3 and 8, so its lists are a sheet, of one cell
             Err(Refused { number: 9, .. }) => Ok(sheet),
@@ -367,30 +361,35 @@ impl Sheet {
         }
     }
 
+    /// A sheet that no call has been made on; its frame is that of one lot.
+    fn unasked(tree: Tree, rule: Rule, lists: raw::Lists) -> Sheet {
+        let work = vec![0; 4 * tree.lots()];
+        Sheet { tree, rule, lists, work, frame: CELL }
+    }
+
     /// Makes the edge of a lot longer by `count` times its slope; its whole subtree moves along.
     pub fn lengthen(&mut self, lot: u32, count: u32) -> Result<Frame, Refused> {
-        let (balanced, parent, rank, lists, work) = self.lent();
-        let answer =
-            asked(Call::Lengthen, |reply| raw::lengthen(balanced, parent, rank, lists, work, lot, count, reply));
-        self.framed(answer)
+        self.ask(Call::Lengthen, |balanced, parent, rank, lists, work, reply| {
+            raw::lengthen(balanced, parent, rank, lists, work, lot, count, reply)
+        })
     }
 
     /// Makes it shorter again, to at least one times its slope.
     pub fn shorten(&mut self, lot: u32, count: u32) -> Result<Frame, Refused> {
-        let (balanced, parent, rank, lists, work) = self.lent();
-        let answer =
-            asked(Call::Shorten, |reply| raw::shorten(balanced, parent, rank, lists, work, lot, count, reply));
-        self.framed(answer)
+        self.ask(Call::Shorten, |balanced, parent, rank, lists, work, reply| {
+            raw::shorten(balanced, parent, rank, lists, work, lot, count, reply)
+        })
     }
 
-    /// What a call that changes the sheet borrows.
-    fn lent(&mut self) -> (bool, &[u32], &[u32], raw::Lists<'_>, &mut [u32]) {
-        let lists = raw::Lists { times: &mut self.times, x: &mut self.x, y: &mut self.y };
-        (self.rule.balanced(), &self.tree.parent, &self.tree.rank, lists, &mut self.work)
-    }
-
-    fn framed(&mut self, answer: Result<(i64, i64, i64), Refused>) -> Result<Frame, Refused> {
-        let (_, width, height) = answer?;
+    /// Makes a call, which is lent the sheet; the frame that it answers is the sheet's then.
+    fn ask(
+        &mut self,
+        call: Call,
+        make: impl FnOnce(bool, &[u32], &[u32], raw::Lists<&mut [u32]>, &mut [u32], &mut [i64]) -> bool,
+    ) -> Result<Frame, Refused> {
+        let Tree { parent, rank } = &self.tree;
+        let (balanced, lists, work) = (self.rule.balanced(), self.lists.lent(), &mut self.work);
+        let (_, width, height) = asked(call, |reply| make(balanced, parent, rank, lists, work, reply))?;
         self.frame = Frame { width: width as u32, height: height as u32 };
         Ok(self.frame)
     }
@@ -402,7 +401,7 @@ impl Sheet {
 
     /// What the check says of the sheet: never that it turns, which is proved.
     pub fn check(&self) -> Result<Verdict, Refused> {
-        check(&self.tree, &self.x, &self.y)
+        check(&self.tree, self.x(), self.y())
     }
 
     /// The tree that is drawn.
@@ -422,30 +421,29 @@ impl Sheet {
 
     /// How many times its slope each lot's edge is long.
     pub fn times(&self) -> &[u32] {
-        &self.times
+        &self.lists.times
     }
 
     /// Each lot's x.
     pub fn x(&self) -> &[u32] {
-        &self.x
+        &self.lists.x
     }
 
     /// Each lot's y.
     pub fn y(&self) -> &[u32] {
-        &self.y
+        &self.lists.y
     }
 
     /// The place of a lot; `None` where there is no such lot.
     pub fn place(&self, lot: u32) -> Option<(u32, u32)> {
-        Some((*self.x.get(lot as usize)?, *self.y.get(lot as usize)?))
+        Some((*self.x().get(lot as usize)?, *self.y().get(lot as usize)?))
     }
 }
 
 impl PartialEq for Sheet {
     fn eq(&self, other: &Sheet) -> bool {
         // the frame follows from the places, and what the work list holds means nothing
-        (&self.tree, self.rule, &self.times, &self.x, &self.y)
-            == (&other.tree, other.rule, &other.times, &other.x, &other.y)
+        (&self.tree, self.rule, &self.lists) == (&other.tree, other.rule, &other.lists)
     }
 }
 

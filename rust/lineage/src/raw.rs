@@ -7,36 +7,56 @@
 /// A call's reply: {0, number, lot} where it refused, otherwise as the call says.
 pub type Reply = [i64; 3];
 
-/// The three lists of a sheet, lent to a call.
-pub struct Lists<'a> {
+/// The lists of a sheet, each with a number for every lot: owned, or lent to a call.
+#[derive(Clone, Debug, PartialEq, Eq)]
+pub struct Lists<L = Vec<u32>> {
     /// How many times its slope each lot's edge is long.
-    pub times: &'a mut [u32],
+    pub times: L,
     /// Each lot's x.
-    pub x: &'a mut [u32],
+    pub x: L,
     /// Each lot's y.
-    pub y: &'a mut [u32],
+    pub y: L,
+}
+
+impl<L> Lists<L> {
+    /// The lists, in the order in which calls take them.
+    pub fn each(&self) -> [&L; 3] {
+        [&self.times, &self.x, &self.y]
+    }
+
+    /// The same, to be changed.
+    pub fn each_mut(&mut self) -> [&mut L; 3] {
+        [&mut self.times, &mut self.x, &mut self.y]
+    }
+}
+
+impl Lists {
+    /// The lists of n lots, all 0, for layout to fill.
+    pub fn of(n: usize) -> Lists {
+        Lists { times: vec![0; n], x: vec![0; n], y: vec![0; n] }
+    }
+
+    /// What a call borrows.
+    pub fn lent(&mut self) -> Lists<&mut [u32]> {
+        Lists { times: &mut self.times, x: &mut self.x, y: &mut self.y }
+    }
 }
 
 /// The calls on slices, over C functions that have these names and the header's types. The benchmark has a second set,
-/// over a plain C version.
+/// over a plain C version. Calls on a sheet differ in what stands between their work list and their reply.
 #[doc(hidden)]
 #[macro_export]
 #[rustfmt::skip]
 macro_rules! calls {
     (
-        $layout:ident, [$($stretch:ident = $stretched:ident),*], $direction:ident, $numbers:ident, $check:ident,
-        $read:ident, $write:ident
+        [$($on_sheet:ident = $sheet_call:ident($($more:ident: $number:ty),*)),*], $direction:ident, $numbers:ident,
+        $check:ident, $read:ident, $write:ident
     ) => {
         extern "C" {
-            fn $layout(
+            $(fn $sheet_call(
                 balanced: bool, parent: *const u32, parents: usize, rank: *const u32, ranks: usize, times: *mut u32,
                 times_length: usize, x: *mut u32, x_length: usize, y: *mut u32, y_length: usize, work: *mut u32,
-                work_length: usize, reply: *mut i64, reply_length: usize,
-            ) -> bool;
-            $(fn $stretched(
-                balanced: bool, parent: *const u32, parents: usize, rank: *const u32, ranks: usize, times: *mut u32,
-                times_length: usize, x: *mut u32, x_length: usize, y: *mut u32, y_length: usize, work: *mut u32,
-                work_length: usize, lot: u32, count: u32, reply: *mut i64, reply_length: usize,
+                work_length: usize, $($more: $number,)* reply: *mut i64, reply_length: usize,
             ) -> bool;)*
             fn $direction(
                 balanced: bool, parent: *const u32, parents: usize, rank: *const u32, ranks: usize, work: *mut u32,
@@ -62,34 +82,20 @@ macro_rules! calls {
             ) -> bool;
         }
 
+        $(
         /// {1, width, height}.
-        pub fn layout(
-            balanced: bool, parent: &[u32], rank: &[u32], s: $crate::raw::Lists, work: &mut [u32], reply: &mut [i64],
+        #[allow(clippy::too_many_arguments)]
+        pub fn $on_sheet(
+            balanced: bool, parent: &[u32], rank: &[u32], s: $crate::raw::Lists<&mut [u32]>, work: &mut [u32],
+            $($more: $number,)* reply: &mut [i64],
         ) -> bool {
             // SAFETY: each address has its slice's length, the slices live through the call, and those that it writes
             // are exclusive.
             unsafe {
-                $layout(
+                $sheet_call(
                     balanced, parent.as_ptr(), parent.len(), rank.as_ptr(), rank.len(), s.times.as_mut_ptr(),
                     s.times.len(), s.x.as_mut_ptr(), s.x.len(), s.y.as_mut_ptr(), s.y.len(), work.as_mut_ptr(),
-                    work.len(), reply.as_mut_ptr(), reply.len(),
-                )
-            }
-        }
-
-        $(
-        /// {1, width, height}.
-        #[allow(clippy::too_many_arguments)]
-        pub fn $stretch(
-            balanced: bool, parent: &[u32], rank: &[u32], s: $crate::raw::Lists, work: &mut [u32], lot: u32,
-            count: u32, reply: &mut [i64],
-        ) -> bool {
-            // SAFETY: as in `layout`.
-            unsafe {
-                $stretched(
-                    balanced, parent.as_ptr(), parent.len(), rank.as_ptr(), rank.len(), s.times.as_mut_ptr(),
-                    s.times.len(), s.x.as_mut_ptr(), s.x.len(), s.y.as_mut_ptr(), s.y.len(), work.as_mut_ptr(),
-                    work.len(), lot, count, reply.as_mut_ptr(), reply.len(),
+                    work.len(), $($more,)* reply.as_mut_ptr(), reply.len(),
                 )
             }
         }
@@ -99,7 +105,7 @@ macro_rules! calls {
         pub fn direction(
             balanced: bool, parent: &[u32], rank: &[u32], work: &mut [u32], from: u32, to: u32, reply: &mut [i64],
         ) -> bool {
-            // SAFETY: as in `layout`.
+            // SAFETY: as in the calls on a sheet.
             unsafe {
                 $direction(
                     balanced, parent.as_ptr(), parent.len(), rank.as_ptr(), rank.len(), work.as_mut_ptr(), work.len(),
@@ -112,7 +118,7 @@ macro_rules! calls {
         pub fn post_numbers(
             parent: &[u32], rank: &[u32], first: &mut [u32], last: &mut [u32], work: &mut [u32], reply: &mut [i64],
         ) -> bool {
-            // SAFETY: as in `layout`.
+            // SAFETY: as in the calls on a sheet.
             unsafe {
                 $numbers(
                     parent.as_ptr(), parent.len(), rank.as_ptr(), rank.len(), first.as_mut_ptr(), first.len(),
@@ -125,7 +131,7 @@ macro_rules! calls {
         pub fn check(
             parent: &[u32], rank: &[u32], x: &[u32], y: &[u32], work: &mut [u32], reply: &mut [i64],
         ) -> bool {
-            // SAFETY: as in `layout`.
+            // SAFETY: as in the calls on a sheet.
             unsafe {
                 $check(
                     parent.as_ptr(), parent.len(), rank.as_ptr(), rank.len(), x.as_ptr(), x.len(), y.as_ptr(),
@@ -138,7 +144,7 @@ macro_rules! calls {
         pub fn read_tree(
             bytes: &[u8], parent: &mut [u32], rank: &mut [u32], work: &mut [u32], reply: &mut [i64],
         ) -> bool {
-            // SAFETY: as in `layout`.
+            // SAFETY: as in the calls on a sheet.
             unsafe {
                 $read(
                     bytes.as_ptr(), bytes.len(), parent.as_mut_ptr(), parent.len(), rank.as_mut_ptr(), rank.len(),
@@ -151,7 +157,7 @@ macro_rules! calls {
         pub fn write_tree(
             parent: &[u32], rank: &[u32], bytes: &mut [u8], work: &mut [u32], reply: &mut [i64],
         ) -> bool {
-            // SAFETY: as in `layout`.
+            // SAFETY: as in the calls on a sheet.
             unsafe {
                 $write(
                     parent.as_ptr(), parent.len(), rank.as_ptr(), rank.len(), bytes.as_mut_ptr(), bytes.len(),
@@ -163,8 +169,11 @@ macro_rules! calls {
 }
 
 calls!(
-    lineage_layout,
-    [lengthen = lineage_lengthen, shorten = lineage_shorten],
+    [
+        layout = lineage_layout(),
+        lengthen = lineage_lengthen(lot: u32, count: u32),
+        shorten = lineage_shorten(lot: u32, count: u32)
+    ],
     lineage_direction,
     lineage_post_numbers,
     lineage_check,
@@ -178,6 +187,6 @@ extern "C" {
 
 /// The n that a tree file states, or 0 where it has fewer than 4 bytes.
 pub fn stated_nodes(bytes: &[u8]) -> u32 {
-    // SAFETY: as in `layout`.
+    // SAFETY: as in the calls on a sheet.
     unsafe { lineage_stated_nodes(bytes.as_ptr(), bytes.len()) }
 }

@@ -196,6 +196,15 @@ pub struct Sheet {
 }
 
 impl Sheet {
+    /// Lists that are made one after the other, which need not be a sheet.
+    pub fn made(mut list: impl FnMut() -> Vec<u32>) -> Sheet {
+        Sheet { times: list(), x: list(), y: list() }
+    }
+
+    pub fn each(&mut self) -> [&mut Vec<u32>; 3] {
+        [&mut self.times, &mut self.x, &mut self.y]
+    }
+
     pub fn lengths(&self) -> [usize; 3] {
         [self.times.len(), self.x.len(), self.y.len()]
     }

@@ -153,7 +153,7 @@ impl Random {
     /// A sheet of an accepted table with random times, which may break the limit, or else any three lists.
     pub fn sheet(&mut self, balanced: bool, parent: &[u32], rank: &[u32]) -> Sheet {
         let n = parent.len();
-        let any = Sheet { times: self.list(n), x: self.list(n), y: self.list(n) };
+        let any = Sheet::made(|| self.list(n));
         if n == 0 || rank.len() != n || self.once_in(12) {
             return any;
         }

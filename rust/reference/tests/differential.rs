@@ -18,12 +18,10 @@ fn lend(random: &mut Random, list: &mut Vec<u32>) {
 }
 
 fn lend_sheet(random: &mut Random, s: &mut Sheet) {
-    lend(random, &mut s.times);
-    lend(random, &mut s.x);
-    lend(random, &mut s.y);
+    s.each().into_iter().for_each(|list| lend(random, list));
 }
 
-fn lists(s: &mut Sheet) -> raw::Lists<'_> {
+fn lists(s: &mut Sheet) -> raw::Lists<&mut [u32]> {
     raw::Lists { times: &mut s.times, x: &mut s.x, y: &mut s.y }
 }
 
@@ -104,7 +102,7 @@ fn layout() {
         let (parent, mut rank) = random.any_table(200);
         let n = parent.len();
         let balanced = random.once_in(2);
-        let mut mine = Sheet { times: random.list(n), x: random.list(n), y: random.list(n) };
+        let mut mine = Sheet::made(|| random.list(n));
         lend_sheet(&mut random, &mut mine);
         lend(&mut random, &mut rank);
         let (mut theirs, mut lent) = (mine.clone(), Lent::new(&mut random, n));
@@ -132,7 +130,7 @@ fn stretch(
     count: u32,
 ) -> Reply {
     let (mut theirs, mut lent) = (s.clone(), Lent::new(random, parent.len()));
-    let (mine, call): (_, fn(_, &_, &_, raw::Lists, &mut _, _, _, &mut _) -> _) = if longer {
+    let (mine, call): (_, fn(_, &_, &_, raw::Lists<&mut _>, &mut _, _, _, &mut _) -> _) = if longer {
         (reference::lengthen as fn(_, &_, &_, &mut _, _, _, _) -> _, raw::lengthen)
     } else {
         (reference::shorten as fn(_, &_, &_, &mut _, _, _, _) -> _, raw::shorten)
@@ -204,7 +202,7 @@ fn lists_of_calls() {
         let n = random.lots(30);
         let (parent, rank) = random.table(n);
         let balanced = random.once_in(2);
-        let mut s = Sheet { times: vec![0; n], x: vec![0; n], y: vec![0; n] };
+        let mut s = Sheet::made(|| vec![0; n]);
         reference::layout(balanced, &parent, &rank, &mut s, 4 * n);
         let tree = reference::accept_lists(&parent, &rank).unwrap();
         let slopes = tree.slopes(balanced);
@@ -403,7 +401,7 @@ fn shaped(shape: &str, n: usize) -> (Vec<u32>, Vec<u32>) {
 fn limits_of_lots(shape: &str, n: usize) {
     let (parent, rank) = shaped(shape, n);
     for balanced in [false, true] {
-        let mut mine = Sheet { times: vec![9; n], x: vec![9; n], y: vec![9; n] };
+        let mut mine = Sheet::made(|| vec![9; n]);
         let mut theirs = mine.clone();
         let (mut w, mut reply) = (vec![3; 4 * n], [0; 3]);
         raw::layout(balanced, &parent, &rank, lists(&mut theirs), &mut w, &mut reply);
