@@ -94,11 +94,15 @@ def _lists(count: int) -> list[Any]:
 
 _BYTES: list[Any] = [ctypes.POINTER(c_uint8), c_size_t]
 
+# The lists of a sheet, in the order in which calls take them, between the table's two and the work list.
+_SHEET = "times", "x", "y"
+_ON_SHEET: list[Any] = [c_bool, *_lists(2 + len(_SHEET) + 1)]
+
 # What each call of lineage.h takes before its reply.
 _TAKES = {
-    "layout": [c_bool, *_lists(6)],
-    "lengthen": [c_bool, *_lists(6), c_uint32, c_uint32],
-    "shorten": [c_bool, *_lists(6), c_uint32, c_uint32],
+    "layout": _ON_SHEET,
+    "lengthen": [*_ON_SHEET, c_uint32, c_uint32],
+    "shorten": [*_ON_SHEET, c_uint32, c_uint32],
     "direction": [c_bool, *_lists(3), c_uint32, c_uint32],
     "post_numbers": _lists(5),
     "check": _lists(5),
@@ -336,14 +340,14 @@ class Sheet:
 
     def __init__(self, tree: Tree, rule: str) -> None:
         """The fresh sheet, with every times 1."""
-        self._open(tree, rule, *(_zeros(len(tree)) for _ in range(3)))
+        self._open(tree, rule, [_zeros(len(tree)) for _ in _SHEET])
         self._ask("layout")
 
     @classmethod
     def from_lists(cls, tree: Tree, rule: str, times: Iterable[int], x: Iterable[int], y: Iterable[int]) -> Sheet:
         """The sheet that these lists are, as one that was saved; refused with 8 where they are none."""
         sheet = cls.__new__(cls)
-        sheet._open(tree, rule, _numbers(times), _numbers(x), _numbers(y))
+        sheet._open(tree, rule, [_numbers(values) for values in (times, x, y)])
         try:
             sheet.lengthen(1, 0)
         except Refused as refused:
@@ -351,14 +355,14 @@ class Sheet:
                 raise
         return sheet
 
-    def _open(self, tree: Tree, rule: str, times: _List, x: _List, y: _List) -> None:
+    def _open(self, tree: Tree, rule: str, lists: list[_List]) -> None:
         self._balanced = _balanced(rule)
-        self._tree, self._times, self._x, self._y = tree, times, x, y
+        self._tree, self._lists = tree, dict(zip(_SHEET, lists))
         self._work = _zeros(4 * len(tree))
         self._frame = Frame(1, 1)  # that of one lot; with more lots a call sets it
 
     def _ask(self, call: str, *numbers: int) -> Frame:
-        lists = self._tree._parents, self._tree._ranks, self._times, self._x, self._y, self._work
+        lists = self._tree._parents, self._tree._ranks, *self._lists.values(), self._work
         _, width, height = _ask(call, self._balanced, *lists, *map(_number, numbers))
         self._frame = Frame(width, height)
         return self._frame
@@ -377,7 +381,7 @@ class Sheet:
 
     def check(self) -> Verdict:
         """What the check says of the sheet: never that it turns, which is proved."""
-        return check(self._tree, self._x, self._y)
+        return check(self._tree, self.x, self.y)
 
     @property
     def tree(self) -> Tree:
@@ -397,22 +401,22 @@ class Sheet:
     @property
     def times(self) -> list[int]:
         """How many times its slope each lot's edge is long."""
-        return list(self._times)
+        return list(self._lists["times"])
 
     @property
     def x(self) -> list[int]:
         """Each lot's x."""
-        return list(self._x)
+        return list(self._lists["x"])
 
     @property
     def y(self) -> list[int]:
         """Each lot's y."""
-        return list(self._y)
+        return list(self._lists["y"])
 
     def place(self, lot: int) -> tuple[int, int]:
         """The place of a lot; IndexError where there is no such lot."""
         at = _number(lot)
-        return self._x[at], self._y[at]
+        return self._lists["x"][at], self._lists["y"][at]
 
     def __eq__(self, other: object) -> bool:
         return isinstance(other, Sheet) and self._drawn() == other._drawn()
@@ -420,7 +424,7 @@ class Sheet:
     __hash__ = None  # type: ignore[assignment]  # a sheet changes
 
     def _drawn(self) -> tuple[Any, ...]:
-        return self._tree, self._balanced, self.times, self.x, self.y
+        return self._tree, self.rule, *map(list, self._lists.values())
 
     def __repr__(self) -> str:
-        return f"Sheet.from_lists({self._tree}, {self.rule!r}, {self.times}, {self.x}, {self.y})"
+        return f"Sheet.from_lists({', '.join(map(repr, self._drawn()))})"
