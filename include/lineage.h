@@ -7,9 +7,10 @@
  * A table of n lots, 1 to 65,536, is two lists of n numbers:
  *     parent[v]   the lot that v hangs on; the root is lot 0, with parent 0
  *     rank[v]     v's place among the children of its parent, from 0; the root has rank 0
- * A sheet of a table under a rule is three lists of n numbers:
+ * A sheet of a table under a rule is four lists of n numbers:
  *     times[v]    how many times its slope the edge from parent[v] to v is long; 1 for the root
  *     x[v], y[v]  the place of v: its parent's place plus times[v] times its slope; (0, 0) for the root
+ *     held[v]     1 where that edge is held: no call changes its length until it is freed; otherwise 0, as for the root
  * The slope of a lot's edge is the j-th of the rule, where j is the lot's number in post-order, from 1:
  *     steep       across 1, up j
  *     balanced    the j-th fraction, in increasing order, of the first k levels of the Stern-Brocot tree, 2^k >= n
@@ -24,7 +25,7 @@
  *     nothing at all; otherwise it returns true.
  *   - A reply of {0, number, lot} is a refusal: the call changed no list but `work`. The number is that of the first
  *     ground that applies, in the order that stands with the call. The lot is the smallest of which it is true with 5,
- *     6, 7, 8 and 15, the lot that was asked for with 11 and 12, and 0 otherwise. Any other reply is given below.
+ *     6, 7, 8 and 15, the lot that was asked for with 11, 12 and 22, and 0 otherwise. Any other reply is given below.
  *   - No call allocates, recurses, locks or keeps anything between calls. Calls on different lists may run at once.
  */
 #ifndef LINEAGE_H
@@ -39,10 +40,11 @@ extern "C" {
 #endif
 
 /* The version of the library that this header belongs to. From 0.2 frames count grid cells; from 0.3 there is
- * lineage_post_numbers; from 0.4 a lot has a direction to itself. */
-#define LINEAGE_VERSION "0.4.0"
+ * lineage_post_numbers; from 0.4 a lot has a direction to itself; from 0.5 a sheet has a fourth list, held, which its
+ * calls take after y, and there is lineage_hold. */
+#define LINEAGE_VERSION "0.5.0"
 #define LINEAGE_VERSION_MAJOR 0
-#define LINEAGE_VERSION_MINOR 4
+#define LINEAGE_VERSION_MINOR 5
 #define LINEAGE_VERSION_PATCH 0
 
 /* The most lots of a table, the most that the check takes, and the largest x and y on a sheet. */
@@ -67,7 +69,7 @@ enum lineage_refusal {
     LINEAGE_WRONG_RANK = 6,
     /* the lot's parents never lead to lot 0 */
     LINEAGE_LOOP = 7,
-    /* the lists are no sheet of the table and rule: the lot's times or place is wrong */
+    /* the lists are no sheet of the table and rule: the lot's times, place or held is wrong */
     LINEAGE_NO_SHEET = 8,
     /* there is no such lot */
     LINEAGE_NO_SUCH_LOT = 9,
@@ -84,28 +86,38 @@ enum lineage_refusal {
     /* the tree file has fewer than 4 bytes */
     LINEAGE_FILE_TOO_SHORT = 16,
     /* the tree file is not 4 + 8n bytes long */
-    LINEAGE_WRONG_FILE_LENGTH = 17
+    LINEAGE_WRONG_FILE_LENGTH = 17,
+    /* the lot's line is held */
+    LINEAGE_HELD = 22
 };
 
-/* Writes the fresh sheet, every times 1, into times, x and y. Reply: {1, width, height}, the frame in
- * grid cells: the largest x plus 1 and the largest y plus 1. Refusals 1 to 7. */
+/* Writes the fresh sheet, every times 1 and every held 0, into times, x, y and held. Reply: {1, width, height}, the
+ * frame in grid cells: the largest x plus 1 and the largest y plus 1. Refusals 1 to 7. */
 bool lineage_layout(bool balanced, const uint32_t *parent, size_t parent_length, const uint32_t *rank,
                     size_t rank_length, uint32_t *times, size_t times_length, uint32_t *x, size_t x_length,
-                    uint32_t *y, size_t y_length, uint32_t *work, size_t work_length, int64_t *reply,
-                    size_t reply_length);
+                    uint32_t *y, size_t y_length, uint32_t *held, size_t held_length, uint32_t *work,
+                    size_t work_length, int64_t *reply, size_t reply_length);
 
 /* Makes the edge of `lot` longer by `count` times its slope: times[lot] grows by count, and the lot moves with its
- * whole subtree. Reply: {1, width, height}. Refusals 1 to 11. Count 0 changes nothing. */
+ * whole subtree, held lines too. Reply: {1, width, height}. Refusals 1 to 10, 22, 11. Count 0 changes nothing. */
 bool lineage_lengthen(bool balanced, const uint32_t *parent, size_t parent_length, const uint32_t *rank,
                       size_t rank_length, uint32_t *times, size_t times_length, uint32_t *x, size_t x_length,
-                      uint32_t *y, size_t y_length, uint32_t *work, size_t work_length, uint32_t lot,
-                      uint32_t count, int64_t *reply, size_t reply_length);
+                      uint32_t *y, size_t y_length, const uint32_t *held, size_t held_length, uint32_t *work,
+                      size_t work_length, uint32_t lot, uint32_t count, int64_t *reply, size_t reply_length);
 
-/* Makes it shorter again: times[lot] must stay 1 or more. Reply: {1, width, height}. Refusals 1 to 10, 12. */
+/* Makes it shorter again: times[lot] must stay 1 or more. Reply: {1, width, height}. Refusals 1 to 10, 22, 12. */
 bool lineage_shorten(bool balanced, const uint32_t *parent, size_t parent_length, const uint32_t *rank,
                      size_t rank_length, uint32_t *times, size_t times_length, uint32_t *x, size_t x_length,
-                     uint32_t *y, size_t y_length, uint32_t *work, size_t work_length, uint32_t lot,
-                     uint32_t count, int64_t *reply, size_t reply_length);
+                     uint32_t *y, size_t y_length, const uint32_t *held, size_t held_length, uint32_t *work,
+                     size_t work_length, uint32_t lot, uint32_t count, int64_t *reply, size_t reply_length);
+
+/* Holds the edge of `lot` where `hold` is true, and frees it where it is false: held[lot] becomes 1 or 0, whatever it
+ * was, and nothing else changes. Reply: {1, width, height}. Refusals 1 to 10. */
+bool lineage_hold(bool balanced, const uint32_t *parent, size_t parent_length, const uint32_t *rank,
+                  size_t rank_length, const uint32_t *times, size_t times_length, const uint32_t *x,
+                  size_t x_length, const uint32_t *y, size_t y_length, uint32_t *held, size_t held_length,
+                  uint32_t *work, size_t work_length, uint32_t lot, bool hold, int64_t *reply,
+                  size_t reply_length);
 
 /* A direction along which every edge of the tree path from one lot to another rises, on each sheet of the table under
  * the rule. Reply: {1, d, e}: an edge of (across, up) rises when d * across + e * up is above 0. From a lot to itself

@@ -32,8 +32,9 @@ fn limits() {
 }
 
 #[test]
-fn grounds_are_numbered_from_1() {
-    assert!(GROUNDS.iter().map(|ground| ground.number).eq((1..=17).filter(|&number| number != 13)));
+fn grounds_are_in_the_order_of_their_numbers() {
+    let right = (1..=17).filter(|&number| number != 13).chain([22]);
+    assert!(GROUNDS.iter().map(|ground| ground.number).eq(right));
 }
 
 /// Whoever meets the number 13 in an old reply finds what it was.
@@ -60,10 +61,10 @@ fn header_has_the_grounds() {
 #[test]
 fn header_says_which_grounds_name_a_lot() {
     let header = text("include/lineage.h").replace("\n *     ", " ");
-    let (smallest, asked) = ("smallest of which it is true with 5, 6, 7, 8 and 15", "asked for with 11 and 12");
+    let (smallest, asked) = ("smallest of which it is true with 5, 6, 7, 8 and 15", "asked for with 11, 12 and 22");
     assert!(header.contains(smallest) && header.contains(asked));
     let named: Vec<u32> = GROUNDS.iter().filter(|ground| ground.names_lot).map(|ground| ground.number).collect();
-    assert_eq!(named, [5, 6, 7, 8, 11, 12, 15]);
+    assert_eq!(named, [5, 6, 7, 8, 11, 12, 15, 22]);
 }
 
 #[test]
