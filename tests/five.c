@@ -34,36 +34,96 @@ static bool refused(bool called, enum lineage_refusal number, uint32_t lot)
 }
 
 static const uint32_t parent[5] = {0, 0, 0, 1, 1}, ranks[5] = {0, 0, 1, 0, 1};
-static uint32_t times[5], x[5], y[5], work[20];
+static uint32_t times[5], x[5], y[5], held[5], work[20];
 
 #define TABLE parent, 5, ranks, 5
-#define SHEET times, 5, x, 5, y, 5
+#define SHEET times, 5, x, 5, y, 5, held, 5
 #define WORK work, 20
 #define REPLY reply, 3
 
+/* The calls on the steep sheet. */
+static bool lengthened(uint32_t lot, uint32_t count)
+{
+    return lineage_lengthen(false, TABLE, SHEET, WORK, lot, count, REPLY);
+}
+
+static bool shortened(uint32_t lot, uint32_t count)
+{
+    return lineage_shorten(false, TABLE, SHEET, WORK, lot, count, REPLY);
+}
+
+static bool hold(uint32_t lot, bool yes)
+{
+    return lineage_hold(false, TABLE, SHEET, WORK, lot, yes, REPLY);
+}
+
 static bool is_fresh_steep(void)
 {
-    return are(times, 1, 1, 1, 1, 1) && are(x, 0, 1, 1, 2, 2) && are(y, 0, 3, 4, 4, 5);
+    return are(times, 1, 1, 1, 1, 1) && are(x, 0, 1, 1, 2, 2) && are(y, 0, 3, 4, 4, 5) && are(held, 0, 0, 0, 0, 0);
 }
 
 static void sheets(void)
 {
+    memset(held, -1, sizeof held);
     expect("a reply of two numbers", !lineage_layout(false, TABLE, SHEET, WORK, reply, 2));
+    expect("held too short",
+           refused(lineage_layout(false, TABLE, times, 5, x, 5, y, 5, held, 4, WORK, REPLY), LINEAGE_WRONG_LENGTH, 0));
+    expect("held is as it was", are(held, UINT32_MAX, UINT32_MAX, UINT32_MAX, UINT32_MAX, UINT32_MAX));
     expect("steep frame", replied(lineage_layout(false, TABLE, SHEET, WORK, REPLY), 1, 3, 6));
     expect("steep sheet", is_fresh_steep());
     expect("it is monotone", replied(lineage_check(TABLE, x, 5, y, 5, WORK, REPLY), 1, 0, 0));
 
-    expect("lengthen lot 1 by 2", replied(lineage_lengthen(false, TABLE, SHEET, WORK, 1, 2, REPLY), 1, 5, 12));
+    expect("lengthen lot 1 by 2", replied(lengthened(1, 2), 1, 5, 12));
     expect("lots 1, 3 and 4 moved", are(times, 1, 3, 1, 1, 1) && are(x, 0, 3, 1, 4, 4) && are(y, 0, 9, 4, 10, 11));
-    expect("shorten by 3",
-           refused(lineage_shorten(false, TABLE, SHEET, WORK, 1, 3, REPLY), LINEAGE_COUNT_TOO_LARGE, 1));
-    expect("shorten by 2", replied(lineage_shorten(false, TABLE, SHEET, WORK, 1, 2, REPLY), 1, 3, 6));
+    expect("shorten by 3", refused(shortened(1, 3), LINEAGE_COUNT_TOO_LARGE, 1));
+    expect("shorten by 2", replied(shortened(1, 2), 1, 3, 6));
     expect("the fresh sheet is back", is_fresh_steep());
 
     expect("balanced frame", replied(lineage_layout(true, TABLE, SHEET, WORK, REPLY), 1, 7, 4));
     expect("balanced sheet", are(x, 0, 3, 1, 6, 5) && are(y, 0, 2, 1, 3, 3));
     expect("one lot is 1 by 1",
-           replied(lineage_layout(true, parent, 1, ranks, 1, times, 1, x, 1, y, 1, work, 4, REPLY), 1, 1, 1));
+           replied(lineage_layout(true, parent, 1, ranks, 1, times, 1, x, 1, y, 1, held, 1, work, 4, REPLY), 1, 1, 1));
+}
+
+/* Document 02's held lines, on the steep sheet. */
+static void held_lines(void)
+{
+    lineage_layout(false, TABLE, SHEET, WORK, REPLY);
+    memset(reply, -1, sizeof reply);
+    expect("a reply of two numbers", !lineage_hold(false, TABLE, SHEET, WORK, 1, true, reply, 2));
+    expect("nothing is done", reply[0] == -1 && reply[1] == -1 && is_fresh_steep());
+    expect("lot 0 has no edge", refused(hold(0, true), LINEAGE_NO_EDGE, 0));
+    expect("there is no lot 5", refused(hold(5, true), LINEAGE_NO_SUCH_LOT, 0));
+    expect("held too short", refused(lineage_hold(false, TABLE, times, 5, x, 5, y, 5, held, 4, WORK, 1, true, REPLY),
+                                     LINEAGE_WRONG_LENGTH, 0));
+    expect("no entry is set", is_fresh_steep());
+
+    expect("hold lot 1", replied(hold(1, true), 1, 3, 6) && are(held, 0, 1, 0, 0, 0));
+    expect("hold it again", replied(hold(1, true), 1, 3, 6) && are(held, 0, 1, 0, 0, 0));
+    expect("hold lot 4 too", replied(hold(4, true), 1, 3, 6) && are(held, 0, 1, 0, 0, 1));
+    expect("free lot 4", replied(hold(4, false), 1, 3, 6) && are(held, 0, 1, 0, 0, 0));
+    expect("lengthen a held line by 2", refused(lengthened(1, 2), LINEAGE_HELD, 1));
+    expect("lengthen it by 0", refused(lengthened(1, 0), LINEAGE_HELD, 1));
+    expect("lengthen it too far", refused(lengthened(1, UINT32_MAX), LINEAGE_HELD, 1));
+    expect("shorten it by 0", refused(shortened(1, 0), LINEAGE_HELD, 1));
+    expect("shorten it by too much", refused(shortened(1, 1), LINEAGE_HELD, 1));
+    expect("lengthen lot 3 below it", replied(lengthened(3, 4), 1, 7, 9) && are(x, 0, 1, 1, 6, 2));
+    expect("shorten lot 3", replied(shortened(3, 4), 1, 3, 6) && are(held, 0, 1, 0, 0, 0));
+
+    expect("free lot 1", replied(hold(1, false), 1, 3, 6) && is_fresh_steep());
+    expect("free it again", replied(hold(1, false), 1, 3, 6) && is_fresh_steep());
+    expect("hold lot 3", replied(hold(3, true), 1, 3, 6) && are(held, 0, 0, 0, 1, 0));
+    expect("lengthen lot 1 by 2", replied(lengthened(1, 2), 1, 5, 12));
+    expect("lot 3 moved, as long as it was",
+           are(times, 1, 3, 1, 1, 1) && are(x, 0, 3, 1, 4, 4) && are(y, 0, 9, 4, 10, 11) && are(held, 0, 0, 0, 1, 0));
+
+    held[3] = 2;
+    expect("held is neither 0 nor 1", refused(hold(3, false), LINEAGE_NO_SHEET, 3));
+    times[1] = 2;
+    expect("the smallest lot, with wrong times", refused(hold(3, false), LINEAGE_NO_SHEET, 1));
+    held[0] = 1;
+    expect("the smallest lot, the root with held 1", refused(lengthened(3, 0), LINEAGE_NO_SHEET, 0));
+    expect("a refusal leaves all", are(times, 1, 2, 1, 1, 1) && are(held, 1, 0, 0, 2, 0));
 }
 
 static void directions(void)
@@ -146,6 +206,7 @@ static void files(void)
 int main(void)
 {
     sheets();
+    held_lines();
     directions();
     numbers();
     checks();
