@@ -139,14 +139,14 @@ static bool framed(const uint32_t *x, const uint32_t *y, uint32_t n, int64_t *re
     return true;
 }
 
-bool plain_layout(bool balanced, const uint32_t *parent, size_t parents, const uint32_t *rank, size_t ranks, uint32_t *times,
-                  size_t timess, uint32_t *x, size_t xs, uint32_t *y, size_t ys, uint32_t *work, size_t works, int64_t *reply,
-                  size_t replies)
+bool plain_layout(bool balanced, const uint32_t *parent, size_t parents, const uint32_t *rank, size_t ranks,
+                  uint32_t *times, size_t timess, uint32_t *x, size_t xs, uint32_t *y, size_t ys, uint32_t *held,
+                  size_t helds, uint32_t *work, size_t works, int64_t *reply, size_t replies)
 {
     uint32_t lot, number_;
     if (replies != 3)
         return false;
-    bool others = timess == parents && xs == parents && ys == parents;
+    bool others = timess == parents && xs == parents && ys == parents && helds == parents;
     if ((number_ = table_refused(parent, parents, rank, ranks, others, LOTS, 2, work, works, &lot)))
         return refused(reply, number_, lot);
     uint32_t n = (uint32_t)parents;
@@ -161,35 +161,50 @@ bool plain_layout(bool balanced, const uint32_t *parent, size_t parents, const u
         x[v] = x[p] + across;
         y[v] = y[p] + up;
     }
+    memset(held, 0, n * sizeof *held);
     return framed(x, y, n, reply);
 }
 
-static bool stretch(bool longer, bool balanced, const uint32_t *parent, size_t parents, const uint32_t *rank, size_t ranks,
-                    uint32_t *times, size_t timess, uint32_t *x, size_t xs, uint32_t *y, size_t ys, uint32_t *work,
-                    size_t works, uint32_t lot, uint32_t count, int64_t *reply, size_t replies)
+/* Refusals 1 to 10 of a call on one lot of a sheet; the table is numbered where there is none. */
+static uint32_t lot_refused(bool balanced, const uint32_t *parent, size_t parents, const uint32_t *rank, size_t ranks,
+                            const uint32_t *times, size_t timess, const uint32_t *x, size_t xs, const uint32_t *y,
+                            size_t ys, const uint32_t *held, size_t helds, uint32_t *work, size_t works, uint32_t lot,
+                            uint32_t *bad)
 {
-    uint32_t bad, number_;
-    if (replies != 3)
-        return false;
-    bool others = timess == parents && xs == parents && ys == parents;
-    if ((number_ = table_refused(parent, parents, rank, ranks, others, LOTS, 2, work, works, &bad)))
-        return refused(reply, number_, bad);
+    uint32_t number_;
+    bool others = timess == parents && xs == parents && ys == parents && helds == parents;
+    if ((number_ = table_refused(parent, parents, rank, ranks, others, LOTS, 2, work, works, bad)))
+        return number_;
     uint32_t n = (uint32_t)parents;
     number(parent, rank, n, work);
-    if (times[0] != 1 || x[0] != 0 || y[0] != 0)
-        return refused(reply, 8, 0);
+    if (times[0] != 1 || x[0] != 0 || y[0] != 0 || held[0] != 0)
+        return 8;
     for (uint32_t v = 1; v < n; v++) {
         uint32_t p = parent[v], across, up;
         slope_at(balanced, n, work[v], &across, &up);
         if (times[v] == 0 || x[v] != x[p] + (uint64_t)times[v] * across || y[v] != y[p] + (uint64_t)times[v] * up ||
-            x[v] > LIMIT || y[v] > LIMIT)
-            return refused(reply, 8, v);
+            x[v] > LIMIT || y[v] > LIMIT || held[v] > 1) {
+            *bad = v;
+            return 8;
+        }
     }
-    if (lot >= n)
-        return refused(reply, 9, 0);
-    if (lot == 0)
-        return refused(reply, 10, 0);
-    uint32_t across, up, low = work[2 * (size_t)n + lot], high = work[lot];
+    return lot >= n ? 9 : lot == 0 ? 10 : 0;
+}
+
+static bool stretch(bool longer, bool balanced, const uint32_t *parent, size_t parents, const uint32_t *rank,
+                    size_t ranks, uint32_t *times, size_t timess, uint32_t *x, size_t xs, uint32_t *y, size_t ys,
+                    const uint32_t *held, size_t helds, uint32_t *work, size_t works, uint32_t lot, uint32_t count,
+                    int64_t *reply, size_t replies)
+{
+    uint32_t bad, number_;
+    if (replies != 3)
+        return false;
+    if ((number_ = lot_refused(balanced, parent, parents, rank, ranks, times, timess, x, xs, y, ys, held, helds, work,
+                               works, lot, &bad)))
+        return refused(reply, number_, bad);
+    if (held[lot])
+        return refused(reply, 22, lot);
+    uint32_t n = (uint32_t)parents, across, up, low = work[2 * (size_t)n + lot], high = work[lot];
     slope_at(balanced, n, high, &across, &up);
     uint64_t dx = (uint64_t)count * across, dy = (uint64_t)count * up;
     const uint32_t *order = work + 3 * (size_t)n;
@@ -218,20 +233,37 @@ static bool stretch(bool longer, bool balanced, const uint32_t *parent, size_t p
     return framed(x, y, n, reply);
 }
 
-bool plain_lengthen(bool balanced, const uint32_t *parent, size_t parents, const uint32_t *rank, size_t ranks, uint32_t *times,
-                    size_t timess, uint32_t *x, size_t xs, uint32_t *y, size_t ys, uint32_t *work, size_t works, uint32_t lot,
-                    uint32_t count, int64_t *reply, size_t replies)
+bool plain_lengthen(bool balanced, const uint32_t *parent, size_t parents, const uint32_t *rank, size_t ranks,
+                    uint32_t *times, size_t timess, uint32_t *x, size_t xs, uint32_t *y, size_t ys,
+                    const uint32_t *held, size_t helds, uint32_t *work, size_t works, uint32_t lot, uint32_t count,
+                    int64_t *reply, size_t replies)
 {
-    return stretch(true, balanced, parent, parents, rank, ranks, times, timess, x, xs, y, ys, work, works, lot, count, reply,
-                   replies);
+    return stretch(true, balanced, parent, parents, rank, ranks, times, timess, x, xs, y, ys, held, helds, work,
+                   works, lot, count, reply, replies);
 }
 
-bool plain_shorten(bool balanced, const uint32_t *parent, size_t parents, const uint32_t *rank, size_t ranks, uint32_t *times,
-                   size_t timess, uint32_t *x, size_t xs, uint32_t *y, size_t ys, uint32_t *work, size_t works, uint32_t lot,
-                   uint32_t count, int64_t *reply, size_t replies)
+bool plain_shorten(bool balanced, const uint32_t *parent, size_t parents, const uint32_t *rank, size_t ranks,
+                   uint32_t *times, size_t timess, uint32_t *x, size_t xs, uint32_t *y, size_t ys,
+                   const uint32_t *held, size_t helds, uint32_t *work, size_t works, uint32_t lot, uint32_t count,
+                   int64_t *reply, size_t replies)
 {
-    return stretch(false, balanced, parent, parents, rank, ranks, times, timess, x, xs, y, ys, work, works, lot, count, reply,
-                   replies);
+    return stretch(false, balanced, parent, parents, rank, ranks, times, timess, x, xs, y, ys, held, helds, work,
+                   works, lot, count, reply, replies);
+}
+
+bool plain_hold(bool balanced, const uint32_t *parent, size_t parents, const uint32_t *rank, size_t ranks,
+                const uint32_t *times, size_t timess, const uint32_t *x, size_t xs, const uint32_t *y, size_t ys,
+                uint32_t *held, size_t helds, uint32_t *work, size_t works, uint32_t lot, bool hold, int64_t *reply,
+                size_t replies)
+{
+    uint32_t bad, number_;
+    if (replies != 3)
+        return false;
+    if ((number_ = lot_refused(balanced, parent, parents, rank, ranks, times, timess, x, xs, y, ys, held, helds, work,
+                               works, lot, &bad)))
+        return refused(reply, number_, bad);
+    held[lot] = hold;
+    return framed(x, y, (uint32_t)parents, reply);
 }
 
 bool plain_direction(bool balanced, const uint32_t *parent, size_t parents, const uint32_t *rank, size_t ranks, uint32_t *work,

@@ -26,9 +26,10 @@ fn now() -> f64 {
 mod plain_c {
     lineage::calls!(
         [
-            layout = plain_layout(),
-            lengthen = plain_lengthen(lot: u32, count: u32),
-            shorten = plain_shorten(lot: u32, count: u32)
+            layout = plain_layout(mut, mut),
+            lengthen = plain_lengthen(mut, const, lot: u32, count: u32),
+            shorten = plain_shorten(mut, const, lot: u32, count: u32),
+            hold = plain_hold(const, mut, lot: u32, hold: bool)
         ],
         plain_direction,
         plain_post_numbers,
@@ -63,6 +64,11 @@ macro_rules! on_lists {
                 assert!(calls::shorten(b, &l.parent, &l.rank, s, &mut l.work, l.lot, 1, &mut l.reply));
             }
 
+            pub fn hold(l: &mut Lists, b: bool) {
+                let s = l.sheets[usize::from(b)].lent();
+                assert!(calls::hold(b, &l.parent, &l.rank, s, &mut l.work, l.lot, true, &mut l.reply));
+            }
+
             pub fn direction(l: &mut Lists, b: bool) {
                 let n = l.lots() as u32;
                 assert!(calls::direction(b, &l.parent, &l.rank, &mut l.work, n - 1, n / 2, &mut l.reply));
@@ -93,7 +99,8 @@ macro_rules! on_lists {
 on_lists!(proved, lineage::raw);
 on_lists!(plain, super::plain_c);
 
-/// The lists that the calls work on: a table with a sheet under each rule, steep first, and the lot that is stretched.
+/// The lists that the calls work on: a table with a sheet under each rule, steep first, and the lot that is stretched
+/// and held.
 #[derive(Clone, PartialEq)]
 struct Lists {
     parent: Vec<u32>,
@@ -287,7 +294,7 @@ impl Summary {
     fn balanced_over_steep(&self, n: usize) {
         println!("\nbalanced over steep, {n} lots:\n\n| Call | {} | median |", SHAPES.join(" | "));
         println!("|---|{}---|", "---|".repeat(SHAPES.len()));
-        for call in ["layout", "lengthen", "shorten", "direction"] {
+        for call in ["layout", "lengthen", "shorten", "hold", "direction"] {
             let ratios: Vec<_> =
                 self.over_steep.iter().filter(|o| (o.call, o.n) == (call, n)).map(|o| o.ratio).collect();
             let shown: Vec<_> = ratios.iter().map(|(ratio, least)| format!("{ratio:.2} ({least:.2})")).collect();
@@ -325,7 +332,7 @@ fn choose_lot(l: &mut Lists) {
     }
 }
 
-/// The calls that lay out and stretch, and the direction, under both rules.
+/// The calls that lay out, stretch and hold, and the direction, under both rules.
 fn ruled_calls(summary: &mut Summary, rounds: usize, trees: &mut [Lists], shape: &str) {
     let mut time = |call, trees: &mut [Lists], calls| {
         summary.ruled(call, shape, trees[0].lots(), &in_turn(rounds, trees, &BOTH, calls));
@@ -336,6 +343,7 @@ fn ruled_calls(summary: &mut Summary, rounds: usize, trees: &mut [Lists], shape:
         BOTH.iter().for_each(|&b| plain::lengthen(l, b));
     }
     time("shorten", trees, [proved::shorten, plain::shorten]);
+    time("hold", trees, [proved::hold, plain::hold]);
     time("direction", trees, [proved::direction, plain::direction]);
 }
 

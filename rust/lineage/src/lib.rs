@@ -353,7 +353,8 @@ impl Sheet {
     /// # Ok::<(), Refused>(())
     /// ```
     pub fn from_lists(tree: Tree, rule: Rule, times: Vec<u32>, x: Vec<u32>, y: Vec<u32>) -> Result<Sheet, Refused> {
-        let mut sheet = Sheet::unasked(tree, rule, raw::Lists { times, x, y });
+        let held = vec![0; tree.lots()];
+        let mut sheet = Sheet::unasked(tree, rule, raw::Lists { times, x, y, held });
         match sheet.lengthen(1, 0) {
             // one lot has no edge to lengthen; 9 comes after 3 and 8, so its lists are a sheet, of one cell
             Err(Refused { number: 9, .. }) => Ok(sheet),

@@ -16,47 +16,51 @@ pub struct Lists<L = Vec<u32>> {
     pub x: L,
     /// Each lot's y.
     pub y: L,
+    /// 1 where the lot's edge is held, otherwise 0.
+    pub held: L,
 }
 
 impl<L> Lists<L> {
     /// The lists, in the order in which calls take them.
-    pub fn each(&self) -> [&L; 3] {
-        [&self.times, &self.x, &self.y]
+    pub fn each(&self) -> [&L; 4] {
+        [&self.times, &self.x, &self.y, &self.held]
     }
 
     /// The same, to be changed.
-    pub fn each_mut(&mut self) -> [&mut L; 3] {
-        [&mut self.times, &mut self.x, &mut self.y]
+    pub fn each_mut(&mut self) -> [&mut L; 4] {
+        [&mut self.times, &mut self.x, &mut self.y, &mut self.held]
     }
 }
 
 impl Lists {
     /// The lists of n lots, all 0, for layout to fill.
     pub fn of(n: usize) -> Lists {
-        Lists { times: vec![0; n], x: vec![0; n], y: vec![0; n] }
+        Lists { times: vec![0; n], x: vec![0; n], y: vec![0; n], held: vec![0; n] }
     }
 
     /// What a call borrows.
     pub fn lent(&mut self) -> Lists<&mut [u32]> {
-        Lists { times: &mut self.times, x: &mut self.x, y: &mut self.y }
+        Lists { times: &mut self.times, x: &mut self.x, y: &mut self.y, held: &mut self.held }
     }
 }
 
 /// The calls on slices, over C functions that have these names and the header's types. The benchmark has a second set,
-/// over a plain C version. Calls on a sheet differ in what stands between their work list and their reply.
+/// over a plain C version. Calls on a sheet differ in what they change, the drawing (times, x and y) or held, and in
+/// what stands between their work list and their reply.
 #[doc(hidden)]
 #[macro_export]
 #[rustfmt::skip]
 macro_rules! calls {
     (
-        [$($on_sheet:ident = $sheet_call:ident($($more:ident: $number:ty),*)),*], $direction:ident, $numbers:ident,
-        $check:ident, $read:ident, $write:ident
+        [$($on_sheet:ident = $sheet_call:ident($drawing:tt, $held:tt $(, $more:ident: $number:ty)*)),*],
+        $direction:ident, $numbers:ident, $check:ident, $read:ident, $write:ident
     ) => {
         extern "C" {
             $(fn $sheet_call(
-                balanced: bool, parent: *const u32, parents: usize, rank: *const u32, ranks: usize, times: *mut u32,
-                times_length: usize, x: *mut u32, x_length: usize, y: *mut u32, y_length: usize, work: *mut u32,
-                work_length: usize, $($more: $number,)* reply: *mut i64, reply_length: usize,
+                balanced: bool, parent: *const u32, parents: usize, rank: *const u32, ranks: usize,
+                times: *$drawing u32, times_length: usize, x: *$drawing u32, x_length: usize, y: *$drawing u32,
+                y_length: usize, held: *$held u32, held_length: usize, work: *mut u32, work_length: usize,
+                $($more: $number,)* reply: *mut i64, reply_length: usize,
             ) -> bool;)*
             fn $direction(
                 balanced: bool, parent: *const u32, parents: usize, rank: *const u32, ranks: usize, work: *mut u32,
@@ -94,8 +98,8 @@ macro_rules! calls {
             unsafe {
                 $sheet_call(
                     balanced, parent.as_ptr(), parent.len(), rank.as_ptr(), rank.len(), s.times.as_mut_ptr(),
-                    s.times.len(), s.x.as_mut_ptr(), s.x.len(), s.y.as_mut_ptr(), s.y.len(), work.as_mut_ptr(),
-                    work.len(), $($more,)* reply.as_mut_ptr(), reply.len(),
+                    s.times.len(), s.x.as_mut_ptr(), s.x.len(), s.y.as_mut_ptr(), s.y.len(), s.held.as_mut_ptr(),
+                    s.held.len(), work.as_mut_ptr(), work.len(), $($more,)* reply.as_mut_ptr(), reply.len(),
                 )
             }
         }
@@ -170,9 +174,10 @@ macro_rules! calls {
 
 calls!(
     [
-        layout = lineage_layout(),
-        lengthen = lineage_lengthen(lot: u32, count: u32),
-        shorten = lineage_shorten(lot: u32, count: u32)
+        layout = lineage_layout(mut, mut),
+        lengthen = lineage_lengthen(mut, const, lot: u32, count: u32),
+        shorten = lineage_shorten(mut, const, lot: u32, count: u32),
+        hold = lineage_hold(const, mut, lot: u32, hold: bool)
     ],
     lineage_direction,
     lineage_post_numbers,

@@ -1,6 +1,7 @@
-//! Document 01 in plain Rust: written from the document and built otherwise than the proved code, so that the two can
-//! be held against each other. Trees are child lists walked by recursion, balanced slopes are fractions made level by
-//! level and sorted, a check tries candidate directions on the vectors of each path. All sums are 128 bits wide.
+//! Document 01 in plain Rust, with what document 02 asks for: written from the documents and built otherwise than the
+//! proved code, so that the two can be held against each other. Trees are child lists walked by recursion, balanced
+//! slopes are fractions made level by level and sorted, a check tries candidate directions on the vectors of each path.
+//! All sums are 128 bits wide.
 
 use std::cmp::Ordering;
 use std::collections::{HashMap, HashSet};
@@ -193,20 +194,21 @@ pub struct Sheet {
     pub times: Vec<u32>,
     pub x: Vec<u32>,
     pub y: Vec<u32>,
+    pub held: Vec<u32>,
 }
 
 impl Sheet {
     /// Lists that are made one after the other, which need not be a sheet.
     pub fn made(mut list: impl FnMut() -> Vec<u32>) -> Sheet {
-        Sheet { times: list(), x: list(), y: list() }
+        Sheet { times: list(), x: list(), y: list(), held: list() }
     }
 
-    pub fn each(&mut self) -> [&mut Vec<u32>; 3] {
-        [&mut self.times, &mut self.x, &mut self.y]
+    pub fn each(&mut self) -> [&mut Vec<u32>; 4] {
+        [&mut self.times, &mut self.x, &mut self.y, &mut self.held]
     }
 
-    pub fn lengths(&self) -> [usize; 3] {
-        [self.times.len(), self.x.len(), self.y.len()]
+    pub fn lengths(&self) -> [usize; 4] {
+        [&self.times, &self.x, &self.y, &self.held].map(Vec::len)
     }
 
     fn place(&self, v: usize) -> (i128, i128) {
@@ -251,6 +253,7 @@ pub fn layout(balanced: bool, parent: &[u32], rank: &[u32], s: &mut Sheet, work:
     s.x = places.iter().map(|p| p.0 as u32).collect();
     s.y = places.iter().map(|p| p.1 as u32).collect();
     s.times = times;
+    s.held = vec![0; tree.lots()];
     frame(s)
 }
 
@@ -273,7 +276,8 @@ fn open(
             let (px, py) = s.place(tree.parent[v]);
             time >= 1 && x == px + time * slope.0 && y == py + time * slope.1
         };
-        if !right || x > LIMIT || y > LIMIT {
+        let most_held = if v == 0 { 0 } else { 1 };
+        if !right || x > LIMIT || y > LIMIT || s.held[v] > most_held {
             return Err((8, v as u32));
         }
     }
@@ -284,6 +288,22 @@ fn open(
         return Err((10, 0));
     }
     Ok((tree, slopes))
+}
+
+/// The same with 22, for calls that change the length of the lot's line.
+fn open_free(
+    balanced: bool,
+    parent: &[u32],
+    rank: &[u32],
+    s: &Sheet,
+    work: usize,
+    lot: u32,
+) -> Result<(Tree, Vec<Slope>), Refusal> {
+    let opened = open(balanced, parent, rank, s, work, lot)?;
+    match s.held[lot as usize] {
+        0 => Ok(opened),
+        _ => Err((22, lot)),
+    }
 }
 
 fn shift(s: &mut Sheet, lots: &[usize], by: (i128, i128)) {
@@ -303,7 +323,7 @@ pub fn lengthen(
     lot: u32,
     count: u32,
 ) -> Reply {
-    let (tree, slopes) = match open(balanced, parent, rank, s, work, lot) {
+    let (tree, slopes) = match open_free(balanced, parent, rank, s, work, lot) {
         Ok(opened) => opened,
         Err(r) => return refused(r),
     };
@@ -329,7 +349,7 @@ pub fn shorten(
     lot: u32,
     count: u32,
 ) -> Reply {
-    let (tree, slopes) = match open(balanced, parent, rank, s, work, lot) {
+    let (tree, slopes) = match open_free(balanced, parent, rank, s, work, lot) {
         Ok(opened) => opened,
         Err(r) => return refused(r),
     };
@@ -341,6 +361,17 @@ pub fn shorten(
     shift(s, &tree.subtree(v), by);
     s.times[v] -= count;
     frame(s)
+}
+
+/// Holds the line of a lot, or frees it.
+pub fn hold(balanced: bool, parent: &[u32], rank: &[u32], s: &mut Sheet, work: usize, lot: u32, hold: bool) -> Reply {
+    match open(balanced, parent, rank, s, work, lot) {
+        Ok(_) => {
+            s.held[lot as usize] = hold.into();
+            frame(s)
+        }
+        Err(r) => refused(r),
+    }
 }
 
 pub fn direction(balanced: bool, parent: &[u32], rank: &[u32], work: usize, from: u32, to: u32) -> Reply {
@@ -499,6 +530,22 @@ mod tests {
         let (mut first, mut last) = (vec![9; 5], vec![9; 5]);
         let reply = post_numbers(&[0, 0, 0, 1, 1], &[0, 0, 1, 0, 1], &mut first, &mut last, 20);
         assert_eq!((reply, &first[..], &last[..]), ([1, 5, 0], &[1, 1, 4, 1, 2][..], &[5, 3, 4, 1, 2][..]));
+    }
+
+    #[test]
+    fn a_held_line_of_the_five_lots() {
+        let (parent, rank) = ([0, 0, 0, 1, 1], [0, 0, 1, 0, 1]);
+        let mut s = Sheet::made(|| vec![7; 5]);
+        assert_eq!(layout(false, &parent, &rank, &mut s, 20), [1, 3, 6]);
+        assert_eq!(s.held, [0; 5]);
+        assert_eq!(hold(false, &parent, &rank, &mut s, 20, 3, true), [1, 3, 6]);
+        assert_eq!(lengthen(false, &parent, &rank, &mut s, 20, 3, 0), [0, 22, 3]);
+        assert_eq!(lengthen(false, &parent, &rank, &mut s, 20, 1, 2), [1, 5, 12]);
+        assert_eq!((s.times[3], s.x[3], s.y[3], &s.held[..]), (1, 4, 10, &[0, 0, 0, 1, 0][..]));
+        assert_eq!(hold(false, &parent, &rank, &mut s, 20, 0, true), [0, 10, 0]);
+        s.held[0] = 1;
+        s.times[1] = 9;
+        assert_eq!(hold(false, &parent, &rank, &mut s, 20, 3, false), [0, 8, 0]);
     }
 
     #[test]

@@ -150,7 +150,18 @@ impl Random {
         (0..n).map(|_| self.number()).collect()
     }
 
-    /// A sheet of an accepted table with random times, which may break the limit, or else any three lists.
+    /// Which lines are held: none, some or most, and now and then an entry that no sheet has.
+    fn held(&mut self, n: usize) -> Vec<u32> {
+        let eighths = self.one_of(&[0, 1, 4, 7]);
+        let mut held: Vec<u32> = (0..n).map(|v| u32::from(v > 0 && self.below(8) < eighths)).collect();
+        if self.once_in(15) {
+            let v = if self.once_in(3) { 0 } else { self.below(n) };
+            held[v] = self.one_of(&[1, 2, 3, u32::MAX]);
+        }
+        held
+    }
+
+    /// A sheet of an accepted table with random times, which may break the limit, or else any lists.
     pub fn sheet(&mut self, balanced: bool, parent: &[u32], rank: &[u32]) -> Sheet {
         let n = parent.len();
         let any = Sheet::made(|| self.list(n));
@@ -167,7 +178,7 @@ impl Random {
         let places = places(&tree, &tree.slopes(balanced), &times);
         let x = places.iter().map(|p| p.0 as u32).collect();
         let y = places.iter().map(|p| p.1 as u32).collect();
-        let mut sheet = Sheet { times, x, y };
+        let mut sheet = Sheet { times, x, y, held: self.held(n) };
         match self.below(12) {
             0 => self.damage(&mut sheet.times, 3),
             1 => self.damage(&mut sheet.x, 9),

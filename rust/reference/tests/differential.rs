@@ -22,7 +22,7 @@ fn lend_sheet(random: &mut Random, s: &mut Sheet) {
 }
 
 fn lists(s: &mut Sheet) -> raw::Lists<&mut [u32]> {
-    raw::Lists { times: &mut s.times, x: &mut s.x, y: &mut s.y }
+    raw::Lists { times: &mut s.times, x: &mut s.x, y: &mut s.y, held: &mut s.held }
 }
 
 /// What every call is lent besides its lists, a work list and a reply, and what they held before.
@@ -117,28 +117,37 @@ fn layout() {
     tally.has_all(&[1, 3, 4, 5, 6, 7]);
 }
 
-/// A lengthen or a shorten on both, compared.
-#[allow(clippy::too_many_arguments)]
-fn stretch(
+/// A call on one lot of a sheet.
+#[derive(Clone, Copy, Debug)]
+enum Move {
+    Lengthen(u32),
+    Shorten(u32),
+    Hold(bool),
+}
+
+/// A call on both, compared.
+fn moved(
     random: &mut Random,
-    longer: bool,
     balanced: bool,
     parent: &[u32],
     rank: &[u32],
     s: &mut Sheet,
     lot: u32,
-    count: u32,
+    by: Move,
 ) -> Reply {
     let (mut theirs, mut lent) = (s.clone(), Lent::new(random, parent.len()));
-    let (mine, call): (_, fn(_, &_, &_, raw::Lists<&mut _>, &mut _, _, _, &mut _) -> _) = if longer {
-        (reference::lengthen as fn(_, &_, &_, &mut _, _, _, _) -> _, raw::lengthen)
-    } else {
-        (reference::shorten as fn(_, &_, &_, &mut _, _, _, _) -> _, raw::shorten)
+    let said = format!("{by:?} of {lot}, balanced {balanced}, {parent:?}, {rank:?}, {s:?}");
+    let (lists, work, reply) = (lists(&mut theirs), &mut lent.work[..], &mut lent.reply[..]);
+    let called = match by {
+        Move::Lengthen(count) => raw::lengthen(balanced, parent, rank, lists, work, lot, count, reply),
+        Move::Shorten(count) => raw::shorten(balanced, parent, rank, lists, work, lot, count, reply),
+        Move::Hold(hold) => raw::hold(balanced, parent, rank, lists, work, lot, hold, reply),
     };
-    let said = format!("longer {longer}, balanced {balanced}, {parent:?}, {rank:?}, {s:?}, {lot}, {count}");
-    let (after, reply) = (&mut lent.work[..], &mut lent.reply[..]);
-    let called = call(balanced, parent, rank, lists(&mut theirs), after, lot, count, reply);
-    let right = lent.right(|work| mine(balanced, parent, rank, s, work, lot, count));
+    let right = lent.right(|work| match by {
+        Move::Lengthen(count) => reference::lengthen(balanced, parent, rank, s, work, lot, count),
+        Move::Shorten(count) => reference::shorten(balanced, parent, rank, s, work, lot, count),
+        Move::Hold(hold) => reference::hold(balanced, parent, rank, s, work, lot, hold),
+    });
     lent.compare(&said, called, right, spares_work);
     assert_eq!(*s, theirs, "{said}");
     right
@@ -160,9 +169,11 @@ fn slope_of(balanced: bool, parent: &[u32], rank: &[u32], lot: u32) -> (i128, i1
     tree.and_then(|t| t.slopes(balanced).get(lot as usize).copied()).unwrap_or((1, 1))
 }
 
-fn stretches(test: &str, longer: bool, last: i64) {
+/// Calls on random sheets, of the kind that `kind` makes of a count and the lot's times. Each refuses with 1 to 10, but
+/// for 2, which asks for more lots than these have.
+fn moves(test: &str, last: &[i64], kind: fn(&mut Random, u32, u32) -> Move) {
     let mut random = Random::from_environment(test);
-    let mut tally = Tally::default();
+    let (mut tally, mut by_held) = (Tally::default(), 0);
     for _ in 0..calls() {
         let (parent, mut rank) = random.any_table(60);
         let balanced = random.once_in(2);
@@ -171,25 +182,41 @@ fn stretches(test: &str, longer: bool, last: i64) {
         lend(&mut random, &mut rank);
         let lot = lot_of(&mut random, parent.len());
         let slope = slope_of(balanced, &parent, &rank, lot);
-        let mut count = random.count(&s, slope);
-        if !longer && random.once_in(2) {
-            let times = s.times.get(lot as usize).copied().unwrap_or(1);
-            count = times.wrapping_add(random.below(3) as u32).wrapping_sub(2);
+        let count = random.count(&s, slope);
+        let times = s.times.get(lot as usize).copied().unwrap_or(1);
+        let by = kind(&mut random, count, times);
+        let right = moved(&mut random, balanced, &parent, &rank, &mut s, lot, by);
+        tally.note(right);
+        if right[..2] == [0, 8] {
+            // 8 left the lists as they were, so they tell whether held alone is wrong
+            s.held.fill(0);
+            let freed = reference::hold(balanced, &parent, &rank, &mut s, 4 * parent.len(), lot, true);
+            by_held += usize::from(freed[..2] != [0, 8]);
         }
-        tally.note(stretch(&mut random, longer, balanced, &parent, &rank, &mut s, lot, count));
     }
     tally.print(test);
-    tally.has_all(&[1, 3, 4, 5, 6, 7, 8, 9, 10, last]);
+    tally.has_all(&[&[1, 3, 4, 5, 6, 7, 8, 9, 10], last].concat());
+    println!("{test}: of the refusals 8 there are {by_held} where held alone is wrong");
+    assert!(by_held > 0 || calls() < 10_000, "8 is never by held alone");
 }
 
 #[test]
 fn lengthen() {
-    stretches("lengthen", true, 11);
+    moves("lengthen", &[22, 11], |_, count, _| Move::Lengthen(count));
+}
+
+/// Often by about as much as there is.
+#[test]
+fn shorten() {
+    moves("shorten", &[22, 12], |random, count, times| {
+        let about = times.wrapping_add(random.below(3) as u32).wrapping_sub(2);
+        Move::Shorten(if random.once_in(2) { about } else { count })
+    });
 }
 
 #[test]
-fn shorten() {
-    stretches("shorten", false, 12);
+fn hold() {
+    moves("hold", &[], |random, _, _| Move::Hold(random.once_in(2)));
 }
 
 /// Lists of calls on one sheet, from the fresh one, with the sums of document 01's "Lists of calls" kept beside.
@@ -206,18 +233,28 @@ fn lists_of_calls() {
         reference::layout(balanced, &parent, &rank, &mut s, 4 * n);
         let tree = reference::accept_lists(&parent, &rank).unwrap();
         let slopes = tree.slopes(balanced);
-        let mut added = vec![1i128; n];
+        let (mut added, mut held) = (vec![1i128; n], vec![0; n]);
         for _ in 0..random.below(40) {
-            let (lot, longer) = (lot_of(&mut random, n), random.below(5) < 3);
+            let lot = lot_of(&mut random, n);
             let slope = slopes.get(lot as usize).copied().unwrap_or((1, 1));
             let count = random.count(&s, slope);
-            let right = stretch(&mut random, longer, balanced, &parent, &rank, &mut s, lot, count);
+            let by = match random.below(7) {
+                0..=2 => Move::Lengthen(count),
+                3..=4 => Move::Shorten(count),
+                kind => Move::Hold(kind == 5),
+            };
+            let right = moved(&mut random, balanced, &parent, &rank, &mut s, lot, by);
             if right[0] == 1 {
-                added[lot as usize] += if longer { count as i128 } else { -(count as i128) };
+                match by {
+                    Move::Lengthen(count) => added[lot as usize] += i128::from(count),
+                    Move::Shorten(count) => added[lot as usize] -= i128::from(count),
+                    Move::Hold(hold) => held[lot as usize] = hold.into(),
+                }
             }
             tally.note(right);
             made += 1;
         }
+        assert_eq!(s.held, held);
         for v in 0..n {
             let way = tree.way_up(v);
             let sum =
@@ -226,6 +263,7 @@ fn lists_of_calls() {
         }
     }
     tally.print("lists_of_calls");
+    tally.has_all(&[9, 10, 22, 11, 12]);
 }
 
 #[test]
@@ -397,7 +435,7 @@ fn shaped(shape: &str, n: usize) -> (Vec<u32>, Vec<u32>) {
     std::iter::once((0, 0)).chain(other).unzip()
 }
 
-/// Layout of n lots under both rules, and the direction between two lots that are far apart.
+/// Layout of n lots under both rules, the last lot's line held, and the direction between two lots that are far apart.
 fn limits_of_lots(shape: &str, n: usize) {
     let (parent, rank) = shaped(shape, n);
     for balanced in [false, true] {
@@ -409,6 +447,11 @@ fn limits_of_lots(shape: &str, n: usize) {
         assert_eq!(reply, right, "{shape} {n} {balanced}");
         assert!(mine == theirs, "{shape} {n} {balanced}");
         assert_eq!(right[0], (n <= 65_536) as i64);
+        let last = n as u32 - 1;
+        raw::hold(balanced, &parent, &rank, lists(&mut theirs), &mut w, last, true, &mut reply);
+        let right = reference::hold(balanced, &parent, &rank, &mut mine, 4 * n, last, true);
+        assert_eq!(reply, right, "{shape} {n} {balanced}");
+        assert!(mine == theirs, "{shape} {n} {balanced}");
         let far = (n / 2) as u32;
         raw::direction(balanced, &parent, &rank, &mut w, 1, far, &mut reply);
         if shape != "chain" {
