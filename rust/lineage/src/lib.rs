@@ -299,7 +299,7 @@ pub fn direction(tree: &Tree, rule: Rule, from: u32, to: u32) -> Result<Directio
     Ok(Direction { d: d as i32, e: e as i32 })
 }
 
-/// A tree drawn under a rule. Two sheets are equal where tree, rule, times and places are.
+/// A tree drawn under a rule. Two sheets are equal where tree, rule, times, places and held lines are.
 ///
 /// ```
 /// use lineage::{Rule, Sheet, Tree};
@@ -309,6 +309,8 @@ pub fn direction(tree: &Tree, rule: Rule, from: u32, to: u32) -> Result<Directio
 /// assert_ne!(sheet, fresh);
 /// sheet.shorten(1, 2)?;
 /// assert_eq!(sheet, fresh);
+/// sheet.hold(1)?;
+/// assert_ne!(sheet, fresh);
 /// # Ok::<(), lineage::Refused>(())
 /// ```
 #[derive(Clone, Debug)]
@@ -321,7 +323,7 @@ pub struct Sheet {
 }
 
 impl Sheet {
-    /// The fresh sheet, with every times 1.
+    /// The fresh sheet, with every times 1 and no line held.
     pub fn new(tree: Tree, rule: Rule) -> Result<Sheet, Refused> {
         let lists = raw::Lists::of(tree.lots());
         let mut sheet = Sheet::unasked(tree, rule, lists);
@@ -330,33 +332,44 @@ impl Sheet {
     }
 
     /// The sheet that these lists are, as one that was saved. It is refused with 3 where a list is not as long as the
-    /// tree, and with 8 at the first lot whose times or place breaks the rule. The library itself says so: it is asked
-    /// to lengthen an edge by nothing, and that is the call which a refusal names.
+    /// tree, and with 8 at the first lot whose times, place or held breaks the rule. The library itself says so: it is
+    /// asked to hold a line that is held, or to free one that is free, and that is the call which a refusal names.
     ///
     /// ```
     /// use lineage::{Call, Frame, Refused, Rule, Sheet, Tree};
     ///
     /// let pair = Tree::new(vec![0, 0], vec![0, 0])?;
-    /// let sheet = Sheet::from_lists(pair.clone(), Rule::Steep, vec![1, 5], vec![0, 5], vec![0, 5])?;
+    /// let of = |times, x, held| Sheet::from_lists(pair.clone(), Rule::Steep, times, x, vec![0, 5], held);
+    /// let mut sheet = of(vec![1, 5], vec![0, 5], vec![0, 1])?;
     /// assert_eq!(sheet.frame(), Frame { width: 6, height: 6 });
+    /// assert_eq!(sheet.lengthen(1, 1).unwrap_err().number, 22);
     ///
-    /// let refused = |number, lot| Refused { call: Call::Lengthen, number, lot };
-    /// let moved = Sheet::from_lists(pair.clone(), Rule::Steep, vec![1, 5], vec![0, 4], vec![0, 5]);
-    /// assert_eq!(moved.unwrap_err(), refused(8, 1));
-    /// let short = Sheet::from_lists(pair, Rule::Steep, vec![1], vec![0, 5], vec![0, 5]);
-    /// assert_eq!(short.unwrap_err(), refused(3, 0));
+    /// let refused = |number, lot| Refused { call: Call::Hold, number, lot };
+    /// assert_eq!(of(vec![1, 5], vec![0, 4], vec![0, 0]).unwrap_err(), refused(8, 1));
+    /// assert_eq!(of(vec![1, 5], vec![0, 5], vec![0, 2]).unwrap_err(), refused(8, 1));
+    /// assert_eq!(of(vec![1, 5], vec![0, 5], vec![1, 0]).unwrap_err(), refused(8, 0));
+    /// assert_eq!(of(vec![1], vec![0, 5], vec![0, 0]).unwrap_err(), refused(3, 0));
+    /// assert_eq!(of(vec![1, 5], vec![0, 5], vec![]).unwrap_err(), refused(3, 0));
     ///
     /// let one = Tree::new(vec![0], vec![0])?;
-    /// let sheet = Sheet::from_lists(one.clone(), Rule::Steep, vec![1], vec![0], vec![0])?;
-    /// assert_eq!(sheet.frame(), Frame { width: 1, height: 1 });
-    /// assert_eq!(Sheet::from_lists(one, Rule::Steep, vec![2], vec![0], vec![0]).unwrap_err(), refused(8, 0));
+    /// let of = |times| Sheet::from_lists(one.clone(), Rule::Steep, times, vec![0], vec![0], vec![0]);
+    /// assert_eq!(of(vec![1])?.frame(), Frame { width: 1, height: 1 });
+    /// assert_eq!(of(vec![2]).unwrap_err(), refused(8, 0));
     /// # Ok::<(), Refused>(())
     /// ```
-    pub fn from_lists(tree: Tree, rule: Rule, times: Vec<u32>, x: Vec<u32>, y: Vec<u32>) -> Result<Sheet, Refused> {
-        let held = vec![0; tree.lots()];
+    pub fn from_lists(
+        tree: Tree,
+        rule: Rule,
+        times: Vec<u32>,
+        x: Vec<u32>,
+        y: Vec<u32>,
+        held: Vec<u32>,
+    ) -> Result<Sheet, Refused> {
+        // any other entry of lot 1 is refused, with 8, and none at all with 3
+        let first = held.get(1) == Some(&1);
         let mut sheet = Sheet::unasked(tree, rule, raw::Lists { times, x, y, held });
-        match sheet.lengthen(1, 0) {
-            // one lot has no edge to lengthen; 9 comes after 3 and 8, so its lists are a sheet, of one cell
+        match sheet.set_held(1, first) {
+            // one lot has no edge to hold; 9 comes after 3 and 8, so its lists are a sheet, of one cell
             Err(Refused { number: 9, .. }) => Ok(sheet),
             asked => asked.map(|_| sheet),
         }
@@ -368,7 +381,7 @@ impl Sheet {
         Sheet { tree, rule, lists, work, frame: CELL }
     }
 
-    /// Makes the edge of a lot longer by `count` times its slope; its whole subtree moves along.
+    /// Makes the edge of a lot longer by `count` times its slope; its whole subtree moves along, held lines too.
     pub fn lengthen(&mut self, lot: u32, count: u32) -> Result<Frame, Refused> {
         self.ask(Call::Lengthen, |balanced, parent, rank, lists, work, reply| {
             raw::lengthen(balanced, parent, rank, lists, work, lot, count, reply)
@@ -379,6 +392,41 @@ impl Sheet {
     pub fn shorten(&mut self, lot: u32, count: u32) -> Result<Frame, Refused> {
         self.ask(Call::Shorten, |balanced, parent, rank, lists, work, reply| {
             raw::shorten(balanced, parent, rank, lists, work, lot, count, reply)
+        })
+    }
+
+    /// Holds the line of a lot: it keeps its length, and lengthen and shorten refuse it with 22, until it is freed. It
+    /// still moves with the lots above it. A line that is held already may be held again.
+    ///
+    /// ```
+    /// use lineage::{Call, Refused, Rule, Sheet, Tree};
+    ///
+    /// let tree = Tree::new(vec![0, 0, 0, 1, 1], vec![0, 0, 1, 0, 1])?;
+    /// let mut sheet = Sheet::new(tree, Rule::Steep)?;
+    /// sheet.hold(3)?;
+    /// assert_eq!(sheet.held(), [0, 0, 0, 1, 0]);
+    /// assert_eq!(sheet.lengthen(3, 0), Err(Refused { call: Call::Lengthen, number: 22, lot: 3 }));
+    ///
+    /// sheet.lengthen(1, 2)?;
+    /// assert_eq!((sheet.times()[3], sheet.place(3)), (1, Some((4, 10))));
+    ///
+    /// sheet.free(3)?;
+    /// sheet.lengthen(3, 1)?;
+    /// assert_eq!(sheet.place(3), Some((5, 11)));
+    /// # Ok::<(), Refused>(())
+    /// ```
+    pub fn hold(&mut self, lot: u32) -> Result<Frame, Refused> {
+        self.set_held(lot, true)
+    }
+
+    /// Frees it again.
+    pub fn free(&mut self, lot: u32) -> Result<Frame, Refused> {
+        self.set_held(lot, false)
+    }
+
+    fn set_held(&mut self, lot: u32, hold: bool) -> Result<Frame, Refused> {
+        self.ask(Call::Hold, |balanced, parent, rank, lists, work, reply| {
+            raw::hold(balanced, parent, rank, lists, work, lot, hold, reply)
         })
     }
 
@@ -433,6 +481,11 @@ impl Sheet {
     /// Each lot's y.
     pub fn y(&self) -> &[u32] {
         &self.lists.y
+    }
+
+    /// 1 where the lot's line is held, otherwise 0.
+    pub fn held(&self) -> &[u32] {
+        &self.lists.held
     }
 
     /// The place of a lot; `None` where there is no such lot.

@@ -11,6 +11,8 @@ pub enum Call {
     Lengthen,
     /// [`Sheet::shorten`](crate::Sheet::shorten).
     Shorten,
+    /// [`Sheet::hold`](crate::Sheet::hold) and [`Sheet::free`](crate::Sheet::free).
+    Hold,
     /// [`direction`](crate::direction()).
     Direction,
     /// [`Tree::post_numbers`](crate::Tree::post_numbers).
@@ -29,6 +31,7 @@ impl fmt::Display for Call {
             Call::Layout => "layout",
             Call::Lengthen => "lengthen",
             Call::Shorten => "shorten",
+            Call::Hold => "hold",
             Call::Direction => "direction",
             Call::PostNumbers => "post numbers",
             Call::Check => "check",

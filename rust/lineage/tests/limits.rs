@@ -19,6 +19,24 @@ fn lots() {
     assert_eq!(number(star(MAX_LOTS + 1)), 2);
 }
 
+/// Every line of the most lots is held, from the second lot on.
+#[test]
+fn held_lines() {
+    let n = MAX_LOTS as usize;
+    let fresh = Sheet::new(star(MAX_LOTS).unwrap(), Rule::Balanced).unwrap();
+    let (times, x, y) = (fresh.times().to_vec(), fresh.x().to_vec(), fresh.y().to_vec());
+    let held = (0..MAX_LOTS).map(|v| v.min(1)).collect();
+    let mut sheet = Sheet::from_lists(fresh.tree().clone(), Rule::Balanced, times, x, y, held).unwrap();
+    for lot in [1, MAX_LOTS - 1] {
+        assert_eq!(number(sheet.lengthen(lot, 1)), 22);
+        assert_eq!(number(sheet.shorten(lot, 0)), 22);
+        assert_eq!(sheet.free(lot), Ok(fresh.frame()));
+        assert!(sheet.lengthen(lot, 1).is_ok());
+    }
+    assert_eq!(sheet.held().iter().filter(|&&held| held == 1).count(), n - 3);
+    assert_eq!((number(sheet.hold(MAX_LOTS)), number(sheet.hold(0)), number(sheet.free(0))), (9, 10, 10));
+}
+
 /// The post numbers of a chain, which has the largest subtrees.
 #[test]
 fn post_numbers() {

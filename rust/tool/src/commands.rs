@@ -45,7 +45,8 @@ fn opened(given: &Given, source: Source) -> Result<(Sheet, Vec<String>), Stop> {
     };
     let Saved { rule, frame, times, x, y, names } =
         sheetfile::parse(&text).or_else(|e| misuse(format!("{file}:{e}")))?;
-    let sheet = Sheet::from_lists(source.tree, rule, times, x, y).map_err(refused(&file))?;
+    let held = vec![0; times.len()];
+    let sheet = Sheet::from_lists(source.tree, rule, times, x, y, held).map_err(refused(&file))?;
     if sheet.frame() != frame {
         let Frame { width, height } = sheet.frame();
         return misuse(format!("{file}:1: the frame is {width} {height}, in grid cells"));

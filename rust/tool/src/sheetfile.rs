@@ -166,7 +166,7 @@ mod tests {
         let saved = parse(FIVE).unwrap();
         assert_eq!(saved.names, ["the root", "", "b", "c d", "e"]);
         let tree = Tree::new(vec![0, 0, 0, 1, 1], vec![0, 0, 1, 0, 1]).unwrap();
-        let sheet = Sheet::from_lists(tree, saved.rule, saved.times, saved.x, saved.y).unwrap();
+        let sheet = Sheet::from_lists(tree, saved.rule, saved.times, saved.x, saved.y, vec![0; 5]).unwrap();
         assert_eq!(text(&sheet, &saved.names), FIVE);
         assert!(parse(&text(&sheet, &[])).unwrap().names.is_empty());
     }
