@@ -1,7 +1,8 @@
-//! Demand 3 by brute force on small trees: after lists of calls every path rises along its direction, no two edges share
-//! a point but a common end, places are the sums of the calls, and the check says Monotone.
+//! Demand 3 by brute force on small trees: after lists of calls every path rises along its direction, no two edges
+//! share a point but a common end, places are the sums of the calls, and the check says Monotone. A held line keeps its
+//! length until it is freed, and moves with the lots above it.
 
-use lineage::{Rule, Sheet, Tree, Verdict};
+use lineage::{Frame, Refused, Rule, Sheet, Tree, Verdict};
 use reference::random::Random;
 
 type Place = (i128, i128);
@@ -29,9 +30,11 @@ fn cross_badly(a: Place, b: Place, c: Place, d: Place) -> bool {
     s < 0 && t < 0
 }
 
-fn holds(sheet: &Sheet, slopes: &[Place], added: &[i128]) {
+fn holds(sheet: &Sheet, slopes: &[Place], Said { added, held }: &Said) {
     let tree = sheet.tree();
     let n = tree.lots();
+    assert_eq!(sheet.held(), held);
+    assert!(sheet.times().iter().zip(added).all(|(&times, &added)| i128::from(times) == added));
     let place = |v: usize| (sheet.x()[v] as i128, sheet.y()[v] as i128);
     let parent = |v: usize| tree.parents()[v] as usize;
     for v in 0..n {
@@ -61,31 +64,105 @@ fn holds(sheet: &Sheet, slopes: &[Place], added: &[i128]) {
     assert_eq!(sheet.check(), Ok(Verdict::Monotone));
 }
 
-fn every_list(random: &mut Random, tree: &Tree, calls: usize) {
+/// What the accepted calls of a list say: how long each lot's line is, and whether it is held.
+#[derive(Clone)]
+struct Said {
+    added: Vec<i128>,
+    held: Vec<u32>,
+}
+
+/// A call on one lot: hold or free it, or change its length by a count.
+#[derive(Clone, Copy, PartialEq)]
+enum Call {
+    Hold,
+    Free,
+    Lengthen(u32),
+    Shorten(u32),
+}
+
+impl Call {
+    fn any(random: &mut Random) -> Call {
+        let count = [0, 1, 2, 7, 1000, 30_000_000][random.below(6)];
+        match random.below(9) {
+            0..=1 => Call::Hold,
+            2 => Call::Free,
+            3..=6 => Call::Lengthen(count),
+            _ => Call::Shorten(count),
+        }
+    }
+
+    fn make(self, sheet: &mut Sheet, lot: u32) -> Result<Frame, Refused> {
+        match self {
+            Call::Hold => sheet.hold(lot),
+            Call::Free => sheet.free(lot),
+            Call::Lengthen(count) => sheet.lengthen(lot, count),
+            Call::Shorten(count) => sheet.shorten(lot, count),
+        }
+    }
+
+    /// The lengths that it adds.
+    fn adds(self) -> i128 {
+        match self {
+            Call::Hold | Call::Free => 0,
+            Call::Lengthen(count) => count.into(),
+            Call::Shorten(count) => -i128::from(count),
+        }
+    }
+}
+
+/// Makes a call, and sees that a held line refuses to change its length and moves with the lots above it.
+fn made(sheet: &mut Sheet, slopes: &[Place], said: &mut Said, call: Call, lot: u32) {
+    let before = sheet.clone();
+    let answer = call.make(sheet, lot);
+    let Ok(frame) = answer else {
+        assert!(*sheet == before, "a refusal changed the sheet");
+        let is_held = said.held.get(lot as usize) == Some(&1);
+        let stretches = !matches!(call, Call::Hold | Call::Free);
+        assert_eq!(answer.unwrap_err().number == 22, is_held && stretches, "22 is for held lines alone");
+        return;
+    };
+    assert_eq!(frame, sheet.frame());
+    let v = lot as usize;
+    match call {
+        Call::Hold => said.held[v] = 1,
+        Call::Free => said.held[v] = 0,
+        _ => assert_eq!(said.held[v], 0, "the length of a held line changed"),
+    }
+    said.added[v] += call.adds();
+    for z in 0..sheet.tree().lots() as u32 {
+        let moves = sheet.tree().path(0, z).expect("a lot").contains(&lot);
+        let by = if moves { call.adds() } else { 0 };
+        let at = |s: &Sheet| s.place(z).map(|(x, y)| (x as i128, y as i128)).expect("a lot");
+        let (from, to) = (at(&before), at(sheet));
+        assert_eq!(to, (from.0 + by * slopes[v].0, from.1 + by * slopes[v].1), "lot {z}");
+    }
+}
+
+/// A list of calls from the fresh sheet, under both rules; how many lines were held and moved.
+fn every_list(random: &mut Random, tree: &Tree, calls: usize) -> usize {
+    let mut moved = 0;
     for rule in Rule::ALL {
         let mut sheet = Sheet::new(tree.clone(), rule).unwrap();
         let n = tree.lots();
         let slopes = reference::accept_lists(tree.parents(), tree.ranks()).unwrap().slopes(rule == Rule::Balanced);
-        let mut added = vec![1i128; n];
-        holds(&sheet, &slopes, &added);
+        let mut said = Said { added: vec![1; n], held: vec![0; n] };
+        holds(&sheet, &slopes, &said);
         for _ in 0..calls {
-            let lot = random.below(n + 1) as u32;
-            let count = [0, 1, 2, 7, 1000, 30_000_000][random.below(6)];
-            let longer = random.below(3) < 2;
-            let called = if longer { sheet.lengthen(lot, count) } else { sheet.shorten(lot, count) };
-            if called.is_ok() {
-                added[lot as usize] += if longer { count as i128 } else { -(count as i128) };
-            }
+            let (lot, before) = (random.below(n + 1) as u32, sheet.clone());
+            made(&mut sheet, &slopes, &mut said, Call::any(random), lot);
+            let has_moved = |&v: &usize| sheet.held()[v] == 1 && sheet.place(v as u32) != before.place(v as u32);
+            moved += (0..n).filter(has_moved).count();
         }
-        holds(&sheet, &slopes, &added);
+        holds(&sheet, &slopes, &said);
     }
+    moved
 }
 
 /// Every table of at most 5 lots.
 #[test]
 fn every_small_tree() {
     let mut random = Random::from_environment("every_small_tree");
-    let mut trees = 0;
+    let (mut trees, mut moved) = (0, 0);
     for n in 1..=5usize {
         let tables = n.pow(2 * (n as u32 - 1));
         for code in 0..tables {
@@ -101,13 +178,14 @@ fn every_small_tree() {
                 Ok(tree) => {
                     assert!(accepted.is_ok());
                     trees += 1;
-                    every_list(&mut random, &tree, 6);
+                    moved += every_list(&mut random, &tree, 8);
                 }
                 Err(refused) => assert_eq!(accepted.err(), Some((refused.number, refused.lot))),
             }
         }
     }
-    println!("every_small_tree: {trees} tables accepted");
+    println!("every_small_tree: {trees} tables accepted, held lines moved {moved} times");
+    assert!(moved > 0);
     // shapes of ordered trees (1, 1, 2, 5, 14) times the orders of the lots below the root (1, 1, 2, 6, 24)
     assert_eq!(trees, 1 + 1 + 4 + 30 + 336);
 }
@@ -115,9 +193,12 @@ fn every_small_tree() {
 #[test]
 fn random_trees() {
     let mut random = Random::from_environment("random_trees");
+    let mut moved = 0;
     for _ in 0..600 {
         let n = 1 + random.below(16);
         let (parent, rank) = random.table(n);
-        every_list(&mut random, &Tree::new(parent, rank).unwrap(), 12);
+        moved += every_list(&mut random, &Tree::new(parent, rank).unwrap(), 16);
     }
+    println!("random_trees: held lines moved {moved} times");
+    assert!(moved > 0);
 }
