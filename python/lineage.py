@@ -95,7 +95,7 @@ def _lists(count: int) -> list[Any]:
 _BYTES: list[Any] = [ctypes.POINTER(c_uint8), c_size_t]
 
 # The lists of a sheet, in the order in which calls take them, between the table's two and the work list.
-_SHEET = "times", "x", "y"
+_SHEET = "times", "x", "y", "held"
 _ON_SHEET: list[Any] = [c_bool, *_lists(2 + len(_SHEET) + 1)]
 
 # What each call of lineage.h takes before its reply.
@@ -103,6 +103,7 @@ _TAKES = {
     "layout": _ON_SHEET,
     "lengthen": [*_ON_SHEET, c_uint32, c_uint32],
     "shorten": [*_ON_SHEET, c_uint32, c_uint32],
+    "hold": [*_ON_SHEET, c_uint32, c_bool],
     "direction": [c_bool, *_lists(3), c_uint32, c_uint32],
     "post_numbers": _lists(5),
     "check": _lists(5),
@@ -336,20 +337,23 @@ def direction(tree: Tree, rule: str, start: int, end: int) -> Direction:
 
 
 class Sheet:
-    """A tree drawn under a rule, 'steep' or 'balanced'. Two sheets are equal where tree, rule, times and places are."""
+    """A tree drawn under a rule, 'steep' or 'balanced'. Two sheets are equal where tree, rule, times, places and held
+    lines are."""
 
     def __init__(self, tree: Tree, rule: str) -> None:
-        """The fresh sheet, with every times 1."""
+        """The fresh sheet, with every times 1 and no line held."""
         self._open(tree, rule, [_zeros(len(tree)) for _ in _SHEET])
         self._ask("layout")
 
     @classmethod
-    def from_lists(cls, tree: Tree, rule: str, times: Iterable[int], x: Iterable[int], y: Iterable[int]) -> Sheet:
+    def from_lists(cls, tree: Tree, rule: str, times: Iterable[int], x: Iterable[int], y: Iterable[int],
+                   held: Iterable[int]) -> Sheet:
         """The sheet that these lists are, as one that was saved; refused with 8 where they are none."""
         sheet = cls.__new__(cls)
-        sheet._open(tree, rule, [_numbers(values) for values in (times, x, y)])
+        sheet._open(tree, rule, [_numbers(values) for values in (times, x, y, held)])
         try:
-            sheet.lengthen(1, 0)
+            # nothing changes: any other entry of lot 1 is refused, with 8, and none at all with 3
+            sheet._ask("hold", 1, sheet.held[1:2] == [1])
         except Refused as refused:
             if refused.number != 9:  # one lot has no edge; 9 comes after 3 and 8, so its lists are a sheet
                 raise
@@ -368,12 +372,32 @@ class Sheet:
         return self._frame
 
     def lengthen(self, lot: int, count: int) -> Frame:
-        """Makes the edge of a lot longer by count times its slope; its whole subtree moves along."""
+        """Makes the edge of a lot longer by count times its slope; its whole subtree moves along, held lines too."""
         return self._ask("lengthen", lot, count)
 
     def shorten(self, lot: int, count: int) -> Frame:
         """Makes it shorter again, to at least one times its slope."""
         return self._ask("shorten", lot, count)
+
+    def hold(self, lot: int) -> Frame:
+        """Holds the line of a lot: it keeps its length until it is freed, and still moves with the lots above it.
+
+        >>> sheet = Sheet(Tree([0, 0, 0, 1, 1], [0, 0, 1, 0, 1]), "steep")
+        >>> sheet.hold(3)
+        Frame(width=3, height=6)
+        >>> sheet.lengthen(3, 0)
+        Traceback (most recent call last):
+        lineage.Refused: lengthen refused (22) at lot 3: the lot's line is held
+        >>> sheet.lengthen(1, 2)
+        Frame(width=5, height=12)
+        >>> sheet.place(3), sheet.times[3], sheet.held
+        ((4, 10), 1, [0, 0, 0, 1, 0])
+        """
+        return self._ask("hold", lot, True)
+
+    def free(self, lot: int) -> Frame:
+        """Frees it again."""
+        return self._ask("hold", lot, False)
 
     def direction(self, start: int, end: int) -> Direction:
         """A direction along which the path from one lot to another rises."""
@@ -412,6 +436,11 @@ class Sheet:
     def y(self) -> list[int]:
         """Each lot's y."""
         return list(self._lists["y"])
+
+    @property
+    def held(self) -> list[int]:
+        """1 where the lot's line is held, otherwise 0."""
+        return list(self._lists["held"])
 
     def place(self, lot: int) -> tuple[int, int]:
         """The place of a lot; IndexError where there is no such lot."""

@@ -55,29 +55,40 @@ class BesidePython(unittest.TestCase):
         self.draw = random.Random(SEED)
 
     def same(self, sheet, plain):
-        self.assertEqual((sheet.times, sheet.x, sheet.y), (plain.times, plain.x, plain.y))
+        self.assertEqual((sheet.times, sheet.x, sheet.y, sheet.held), (plain.times, plain.x, plain.y, plain.held))
         self.assertEqual((1, *sheet.frame), plain.frame())
 
-    def move(self, sheet, longer, lot, count):
+    def reply(self, call, *numbers):
         """The reply of C that a call's outcome stands for."""
         try:
-            return (1, *(sheet.lengthen if longer else sheet.shorten)(lot, count))
+            return (1, *call(*numbers))
         except Refused as refused:
             return (0, refused.number, refused.lot)
 
     def test_sheets(self):
+        seen = set()
         for _ in range(300):
             lists = random_tree(self.draw)
             rule = self.draw.randrange(2)
             sheet, plain = Sheet(Tree(*lists), RULES[rule]), cases.Sheet(cases.Tree(*lists), rule)
             self.same(sheet, plain)
-            for _ in range(10):
-                longer, lot = self.draw.randrange(2), self.draw.randrange(len(lists[0]) + 1)
+            for _ in range(15):
+                call = self.draw.choice(["lengthen", "lengthen", "shorten", "shorten", "hold", "free"])
+                lot = self.draw.randrange(len(lists[0]) + 1)
                 count = self.draw.choice([0, 1, 2, 5, 1000, 2**31, 2**32 - 1])
-                self.assertEqual(self.move(sheet, longer, lot, count), plain.move(longer, lot, count))
+                if call in ("lengthen", "shorten"):
+                    reply = self.reply(getattr(sheet, call), lot, count)
+                    self.assertEqual(reply, plain.move(call == "lengthen", lot, count))
+                else:
+                    reply = self.reply(getattr(sheet, call), lot)
+                    self.assertEqual(reply, plain.hold(lot, int(call == "hold")))
                 self.same(sheet, plain)
+                seen.add(reply[1] if reply[0] == 0 else call)
             self.assertTrue(sheet.check())
-            self.assertEqual(Sheet.from_lists(sheet.tree, sheet.rule, sheet.times, sheet.x, sheet.y), sheet)
+            lists = sheet.times, sheet.x, sheet.y, sheet.held
+            self.assertEqual(Sheet.from_lists(sheet.tree, sheet.rule, *lists), sheet)
+            self.assertEqual(eval(repr(sheet), {"Sheet": Sheet, "Tree": Tree}), sheet)
+        self.assertEqual(seen, {"lengthen", "shorten", "hold", "free", 9, 10, 11, 12, 22})
 
     def test_checks(self):
         seen = set()
@@ -172,10 +183,35 @@ class Refusals(unittest.TestCase):
         self.refused(9, 0, sheet.direction, 5, 1)
         self.refused(9, 0, sheet.direction, 5, 5)
         self.assertEqual(sheet, before)
-        self.refused(3, 0, Sheet.from_lists, tree, "steep", [1] * 4, sheet.x, sheet.y)
-        self.refused(8, 2, Sheet.from_lists, tree, "steep", sheet.times, [0, 1, 2, 2, 2], sheet.y)
-        self.refused(8, 0, Sheet.from_lists, Tree([0], [0]), "steep", [2], [0], [0])
-        self.assertEqual(Sheet.from_lists(Tree([0], [0]), "steep", [1], [0], [0]).frame, (1, 1))
+        times, x, y, free = sheet.times, sheet.x, sheet.y, [0] * 5
+        self.refused(3, 0, Sheet.from_lists, tree, "steep", [1] * 4, x, y, free)
+        self.refused(3, 0, Sheet.from_lists, tree, "steep", times, x, y, [])
+        self.refused(8, 2, Sheet.from_lists, tree, "steep", times, [0, 1, 2, 2, 2], y, free)
+        self.refused(8, 0, Sheet.from_lists, Tree([0], [0]), "steep", [2], [0], [0], [0])
+        self.assertEqual(Sheet.from_lists(Tree([0], [0]), "steep", [1], [0], [0], [0]).frame, (1, 1))
+
+    def test_held_lines(self):
+        tree = Tree(*FIVE)
+        sheet, fresh = Sheet(tree, "steep"), Sheet(tree, "steep")
+        self.refused(9, 0, sheet.hold, 5)
+        self.refused(10, 0, sheet.hold, 0)
+        self.refused(10, 0, sheet.free, 0)
+        self.assertEqual(sheet, fresh)
+        self.assertEqual((sheet.hold(1), sheet.hold(1), sheet.held), (fresh.frame, fresh.frame, [0, 1, 0, 0, 0]))
+        self.assertNotEqual(sheet, fresh)
+        for count in 0, 1, 2**32 - 1:
+            self.refused(22, 1, sheet.lengthen, 1, count)
+            self.refused(22, 1, sheet.shorten, 1, count)
+        sheet.lengthen(3, 1)
+        sheet.shorten(3, 1)
+        self.assertEqual((sheet.free(1), sheet.free(1), sheet), (fresh.frame, fresh.frame, fresh))
+        self.assertEqual(sheet.lengthen(1, 2), (5, 12))
+        lists = tree, "steep", [1] * 5, fresh.x, fresh.y
+        for held, lot in ([0, 2, 0, 0, 0], 1), ([0, 0, 0, 0, 2**32 - 1], 4), ([1, 0, 0, 0, 0], 0), ([1, 7, 0, 0, 0], 0):
+            self.refused(8, lot, Sheet.from_lists, *lists, held)
+        self.refused(8, 1, Sheet.from_lists, tree, "steep", [1, 2, 1, 1, 1], fresh.x, fresh.y, [0, 0, 2, 0, 0])
+        self.refused(8, 0, Sheet.from_lists, Tree([0], [0]), "steep", [1], [0], [0], [1])
+        self.assertEqual(Sheet.from_lists(*lists, [0, 1, 0, 0, 1]).held, [0, 1, 0, 0, 1])
 
     def test_checks(self):
         self.refused(3, 0, lineage.check, Tree(*FIVE), [0], [0])
@@ -252,7 +288,8 @@ class WrongValues(unittest.TestCase):
             for call in sheet.lengthen, sheet.shorten, sheet.direction:
                 self.assertRaises(error, call, wrong, 1)
                 self.assertRaises(error, call, 1, wrong)
-            self.assertRaises(error, sheet.place, wrong)
+            for call in sheet.hold, sheet.free, sheet.place:
+                self.assertRaises(error, call, wrong)
             self.assertRaises(error, lineage.check, sheet.tree, [wrong] * 5, sheet.y)
         self.assertRaises(IndexError, sheet.place, 5)
 
