@@ -82,9 +82,10 @@ pub static COMMANDS: [Command; 9] = [
     Command {
         name: "sheet",
         words: &["TREE"],
-        summary: "the sheet as text: lot, times, x, y, and names where they are known",
+        summary: "the sheet as text: lot, times, x, y, held, and names where they are known",
         about: "The text can be taken up again by --sheet. Its first line names the rule, the number of lots and the \
-                frame in grid cells, its second the columns.",
+                frame in grid cells, its second the columns. held is 1 for a lot whose line is held; a file without \
+                that column, as versions before 0.5 wrote it, holds none.",
         options: &[&RULE, &SHEET, &LENGTHEN, &SHORTEN, &OUT],
     },
     Command {

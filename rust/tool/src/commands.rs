@@ -43,9 +43,8 @@ fn opened(given: &Given, source: Source) -> Result<(Sheet, Vec<String>), Stop> {
     let Content::Sheet(text) = files::content(files::read(path)?) else {
         return misuse(format!("{file}: is not a sheet file, as 'lineage sheet -o FILE' writes it"));
     };
-    let Saved { rule, frame, times, x, y, names } =
+    let Saved { rule, frame, times, x, y, held, names } =
         sheetfile::parse(&text).or_else(|e| misuse(format!("{file}:{e}")))?;
-    let held = vec![0; times.len()];
     let sheet = Sheet::from_lists(source.tree, rule, times, x, y, held).map_err(refused(&file))?;
     if sheet.frame() != frame {
         let Frame { width, height } = sheet.frame();

@@ -6,10 +6,10 @@ use common::{bash, fails, file, five, lineage, out, place, tree};
 use std::os::unix::ffi::OsStringExt;
 use std::process::Command;
 
-const FRESH: &str = "lineage sheet: rule steep, lots 5, frame 3 6\nlot times x y\n\
-                     0 1 0 0\n1 1 1 3\n2 1 1 4\n3 1 2 4\n4 1 2 5\n";
-const STRETCHED: &str = "lineage sheet: rule steep, lots 5, frame 5 12\nlot times x y\n\
-                         0 1 0 0\n1 3 3 9\n2 1 1 4\n3 1 4 10\n4 1 4 11\n";
+const FRESH: &str = "lineage sheet: rule steep, lots 5, frame 3 6\nlot times x y held\n\
+                     0 1 0 0 0\n1 1 1 3 0\n2 1 1 4 0\n3 1 2 4 0\n4 1 2 5 0\n";
+const STRETCHED: &str = "lineage sheet: rule steep, lots 5, frame 5 12\nlot times x y held\n\
+                         0 1 0 0 0\n1 3 3 9 0\n2 1 1 4 0\n3 1 4 10 0\n4 1 4 11 0\n";
 
 #[test]
 fn sheets() {
@@ -34,8 +34,10 @@ fn saved_sheets_are_taken_up_again() {
     let says = |name: &str, text: &str| fails(&["check", &tree, "--sheet", &file(name, text.as_bytes())]);
     let (status, message) = says("broken.sheet", &STRETCHED.replace("3 1 4 10", "3 1 4 9"));
     assert!(status == 1 && message.contains("broken.sheet") && message.contains("(8) at lot 3"), "{message}");
+    let (status, message) = says("held.sheet", &STRETCHED.replace("2 1 1 4 0", "2 1 1 4 2"));
+    assert!(status == 1 && message.contains("held.sheet") && message.contains("(8) at lot 2"), "{message}");
     let (status, message) =
-        says("other.sheet", "lineage sheet: rule steep, lots 1, frame 1 1\nlot times x y\n0 1 0 0\n");
+        says("other.sheet", "lineage sheet: rule steep, lots 1, frame 1 1\nlot times x y held\n0 1 0 0 0\n");
     assert!(status == 1 && message.contains("(3)"), "{message}");
     let (status, message) = says("damaged.sheet", &STRETCHED.replace("3 1 4 10", "3 1 four 10"));
     assert!(status == 2 && message.contains("damaged.sheet:6:5: x is expected"), "{message}");
@@ -44,6 +46,17 @@ fn saved_sheets_are_taken_up_again() {
     assert!(says("no.sheet", "a\n").1.contains("no.sheet: is not a sheet file"));
     let (status, message) = fails(&["check", &saved]);
     assert!(status == 2 && message.contains("is a sheet file: name its tree here"), "{message}");
+}
+
+/// A sheet file as versions before 0.5 wrote it has no held lines, and gets its column when it is saved again.
+#[test]
+fn sheets_saved_before_lines_were_held() {
+    let tree = five("earlier.tree");
+    let text = STRETCHED.replace(" held\n", "\n").replace(" 0\n", "\n").replace("0 1 0\n", "0 1 0 0\n");
+    assert!(text.ends_with("lot times x y\n0 1 0 0\n1 3 3 9\n2 1 1 4\n3 1 4 10\n4 1 4 11\n"), "{text}");
+    let saved = file("earlier.sheet", text.as_bytes());
+    assert_eq!(out(&["sheet", &tree, "--sheet", &saved]), STRETCHED);
+    assert_eq!(out(&["sheet", &tree, "--sheet", &saved, "--shorten", "1:2"]), FRESH);
 }
 
 #[test]
@@ -82,7 +95,7 @@ fn outlines_keep_names_and_numbers() {
     assert_eq!(std::fs::read_to_string(format!("{tree}.names")).unwrap(), "a\nb\nc\nd\ne\n");
     let back = out(&["outline", "--back", &tree]);
     assert_eq!(back, "[0] a\n  [1] b\n    [2] c\n    [3] d\n  [4] e\n");
-    assert!(out(&["sheet", &tree]).contains("lot times x y name\n0 1 0 0 a\n"));
+    assert!(out(&["sheet", &tree]).contains("lot times x y held name\n0 1 0 0 0 a\n"));
     assert!(out(&["draw", &tree]).contains("<title>lot 4, e, parent 0,"));
     // numbers that are not in the order of the lines
     let five = five("numbers.tree");
