@@ -47,9 +47,16 @@ static LENGTHEN: Opt = repeated(
     "--lengthen",
     "LOT:COUNT",
     ANY,
-    "make the line of a lot longer; may be given again, and mixed with --shorten, in order",
+    "make the line of a lot longer; may be given again, and mixed with --shorten, --hold and --free, in order",
 );
 static SHORTEN: Opt = repeated("--shorten", "LOT:COUNT", ANY, "make it shorter");
+static HOLD: Opt = repeated(
+    "--hold",
+    "LOT",
+    ANY,
+    "hold the line of a lot: it keeps its length until it is freed, and moves with the lots above it",
+);
+static FREE: Opt = repeated("--free", "LOT", ANY, "free it");
 static PATH: Opt =
     repeated("--path", "FROM:TO", 2, "highlight the path between two lots, with its direction; may be given twice");
 static MARK: Opt = repeated("--mark", "LOT", ANY, "write this lot's number in any case; may be given again");
@@ -64,7 +71,7 @@ static PLACES: Opt = Opt {
     value: "FILE",
     help: "check these places, a line of x and y for each lot, and not the sheet's",
     most: 1,
-    not_with: &["--rule", "--sheet", "--lengthen", "--shorten"],
+    not_with: &["--rule", "--sheet", "--lengthen", "--shorten", "--hold", "--free"],
 };
 static BACK: Opt = option("--back", "", "turn a tree file, with the names beside it, into an outline");
 
@@ -76,7 +83,8 @@ pub static COMMANDS: [Command; 9] = [
         about: "A lot's number stands only where it cannot be taken for another lot's; the caption says how many are \
                 left out. Every dot has a title with its lot, name, parent and place.",
         options: &[
-            &RULE, &SHEET, &LENGTHEN, &SHORTEN, &PATH, &MARK, &ROOT, &DEPTH, &TITLE, &PAGE, &TO_SCALE, &OUT,
+            &RULE, &SHEET, &LENGTHEN, &SHORTEN, &HOLD, &FREE, &PATH, &MARK, &ROOT, &DEPTH, &TITLE, &PAGE, &TO_SCALE,
+            &OUT,
         ],
     },
     Command {
@@ -86,7 +94,7 @@ pub static COMMANDS: [Command; 9] = [
         about: "The text can be taken up again by --sheet. Its first line names the rule, the number of lots and the \
                 frame in grid cells, its second the columns. held is 1 for a lot whose line is held; a file without \
                 that column, as versions before 0.5 wrote it, holds none.",
-        options: &[&RULE, &SHEET, &LENGTHEN, &SHORTEN, &OUT],
+        options: &[&RULE, &SHEET, &LENGTHEN, &SHORTEN, &HOLD, &FREE, &OUT],
     },
     Command {
         name: "check",
@@ -94,7 +102,7 @@ pub static COMMANDS: [Command; 9] = [
         summary: "whether the sheet, or a drawing of your own, is monotone",
         about: "Prints 'Monotone', or 'Turns U V' with the first pair of lots that has no direction; the status is 1 \
                 then.",
-        options: &[&RULE, &SHEET, &LENGTHEN, &SHORTEN, &PLACES],
+        options: &[&RULE, &SHEET, &LENGTHEN, &SHORTEN, &HOLD, &FREE, &PLACES],
     },
     Command {
         name: "direction",

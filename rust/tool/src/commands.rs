@@ -53,21 +53,31 @@ fn opened(given: &Given, source: Source) -> Result<(Sheet, Vec<String>), Stop> {
     Ok((sheet, if source.names.is_empty() { names } else { source.names }))
 }
 
+/// A call that an option asks for; a refusal is told with what it was asked of.
+fn make_call(sheet: &mut Sheet, file: &str, option: &str, value: &OsStr) -> Result<Frame, Stop> {
+    if let "--hold" | "--free" = option {
+        let lot = number(option, value)?;
+        let called = if option == "--hold" { sheet.hold(lot) } else { sheet.free(lot) };
+        return called.map_err(refused(format!("{file}: lot {lot}")));
+    }
+    let (lot, count) = two(option, value)?;
+    let called = if option == "--lengthen" { sheet.lengthen(lot, count) } else { sheet.shorten(lot, count) };
+    called.map_err(refused(format!("{file}: lot {lot}, count {count}")))
+}
+
 /// The sheet that the options ask for, and the names of its lots.
-fn stretched(given: &Given) -> Result<(Sheet, Vec<String>), Stop> {
+fn asked(given: &Given) -> Result<(Sheet, Vec<String>), Stop> {
     let source = files::source(&given.words[0])?;
     let file = source.file.clone();
     let (mut sheet, names) = opened(given, source)?;
-    for (option, value) in given.all(&["--lengthen", "--shorten"]) {
-        let (lot, count) = two(option, value)?;
-        let called = if option == "--lengthen" { sheet.lengthen(lot, count) } else { sheet.shorten(lot, count) };
-        called.map_err(refused(format!("{file}: lot {lot}, count {count}")))?;
+    for (option, value) in given.all(&["--lengthen", "--shorten", "--hold", "--free"]) {
+        make_call(&mut sheet, &file, option, value)?;
     }
     Ok((sheet, names))
 }
 
 fn draw_command(given: &Given) -> Result<(), Stop> {
-    let (sheet, names) = stretched(given)?;
+    let (sheet, names) = asked(given)?;
     let file = files::shown(&given.words[0]);
     let lot = |name: &str| given.one(name).map(|word| number(name, word)).transpose();
     let mut ask = Ask {
@@ -97,7 +107,7 @@ fn draw_command(given: &Given) -> Result<(), Stop> {
 }
 
 fn sheet_command(given: &Given) -> Result<(), Stop> {
-    let (sheet, names) = stretched(given)?;
+    let (sheet, names) = asked(given)?;
     files::write(given.one("-o"), sheetfile::text(&sheet, &names).as_bytes())
 }
 
@@ -121,7 +131,7 @@ fn places(path: &OsStr) -> Result<(Vec<u32>, Vec<u32>), Stop> {
 fn check_command(given: &Given) -> Result<(), Stop> {
     let file = files::shown(&given.words[0]);
     let verdict = match given.one("--places") {
-        None => stretched(given)?.0.check(),
+        None => asked(given)?.0.check(),
         Some(path) => {
             let (x, y) = places(path)?;
             check(&files::source(&given.words[0])?.tree, &x, &y)

@@ -23,6 +23,25 @@ fn sheets() {
 }
 
 #[test]
+fn held_lines() {
+    let tree = five("held.tree");
+    let fails_with = |words: &[&str], said: &str| {
+        let (status, message) = fails(&[&["sheet", &tree], words].concat());
+        assert!(status == 1 && message.contains("held.tree") && message.contains(said), "{words:?}: {message}");
+    };
+    fails_with(&["--hold", "1", "--lengthen", "1:0"], "lot 1, count 0: lengthen refused (22) at lot 1:");
+    fails_with(&["--lengthen", "1:2", "--hold=1", "--shorten=1:1"], "shorten refused (22) at lot 1: the lot's line");
+    fails_with(&["--hold", "1", "--free", "1", "--hold", "1", "--lengthen", "1:2"], "(22)");
+    fails_with(&["--hold", "0"], "held.tree: lot 0: hold refused (10): the root has no edge");
+    fails_with(&["--free", "5"], "held.tree: lot 5: hold refused (9): there is no such lot");
+    // in the order that they are given in, whatever their kind
+    assert_eq!(out(&["sheet", &tree, "--hold", "1", "--free", "1", "--lengthen", "1:2"]), STRETCHED);
+    let held = out(&["sheet", &tree, "--hold=3", "--lengthen=1:2", "--hold=4", "--free=4"]);
+    assert!(held != STRETCHED && held.lines().nth(5).unwrap().starts_with("3 1 4 10"), "{held}");
+    assert_eq!(out(&["check", &tree, "--hold=3", "--lengthen=1:2"]), "Monotone\n");
+}
+
+#[test]
 fn saved_sheets_are_taken_up_again() {
     let (tree, saved) = (five("saved.tree"), place("saved.sheet"));
     out(&["sheet", &tree, "--lengthen", "1:2", "-o", &saved]);
@@ -235,6 +254,10 @@ fn wrong_uses_are_told_in_a_line() {
         &["draw", &tree, "--page", "A9"],
         &["draw", &tree, "--lengthen", "1"],
         &["draw", &tree, "--lengthen", "1:x"],
+        &["draw", &tree, "--hold", "1:1"],
+        &["sheet", &tree, "--free", "x"],
+        &["check", &tree, "--places", &tree, "--hold", "1"],
+        &["check", &tree, "--places", &tree, "--free", "1"],
         &["outline", &tree, "--rule", "steep"],
         &["completion", "zsh"],
         &["man", "draw"],
@@ -262,6 +285,7 @@ fn offered(words: &str) -> Vec<String> {
 fn bash_completes() {
     assert_eq!(offered("lineage d"), ["draw", "direction"]);
     assert_eq!(offered("lineage draw x --p"), ["--path", "--page"]);
+    assert_eq!(offered("lineage check x --h"), ["--hold", "--help"]);
     assert_eq!(offered("lineage draw x --rule b"), ["balanced"]);
     assert_eq!(offered("lineage draw x --page ''"), ["A4", "A3"]);
     assert_eq!(offered("lineage completion ''"), ["bash"]);
