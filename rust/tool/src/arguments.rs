@@ -81,7 +81,7 @@ pub static COMMANDS: [Command; 9] = [
         words: &["TREE"],
         summary: "an SVG of the tree's sheet, fitted to a page",
         about: "A lot's number stands only where it cannot be taken for another lot's; the caption says how many are \
-                left out. Every dot has a title with its lot, name, parent and place.",
+                left out. Every dot has a title with its lot, name, parent and place. A held line is heavy and black.",
         options: &[
             &RULE, &SHEET, &LENGTHEN, &SHORTEN, &HOLD, &FREE, &PATH, &MARK, &ROOT, &DEPTH, &TITLE, &PAGE, &TO_SCALE,
             &OUT,

@@ -46,6 +46,8 @@ fn labelled(plan: &Plan, names: &[String], ask: &Ask, asked: &[usize]) -> Result
         radii: &plan.radii,
         lines: &plan.lines,
         ends: &plan.ends,
+        held: &plan.held,
+        excess: plan.excess(),
         area: Box { left: 2.0, top: ask.top() - 10.0, right: wide - 2.0, bottom: high - 2.0 },
         size: plan.size,
         cells: plan.cells,
@@ -90,9 +92,12 @@ fn caption(sheet: &Sheet, ask: &Ask, plan: &Plan) -> String {
     text
 }
 
-/// What the page cannot show, in a line.
+/// What the page cannot show, and how held lines look, in a line.
 fn remarks(plan: &Plan, labels: usize) -> String {
     let mut remarks = Vec::new();
+    if plan.held_lines > 0 {
+        remarks.push(format!("{} held: heavy and black", counted(plan.held_lines, "line is", "lines are")));
+    }
     if labels < plan.lots.len() {
         remarks.push(format!("{} left out", counted(plan.lots.len() - labels, "number", "numbers")));
     }
@@ -168,11 +173,17 @@ fn ends_of(segment: &Segment, (across, down): (usize, usize)) -> String {
 
 fn lines(svg: &mut String, plan: &Plan) {
     writeln!(svg, "<g id=\"lines\" stroke=\"#345\" stroke-width=\"{:.2}\">", plan.stroke).unwrap();
-    for (line, &(dot, _)) in plan.lines.iter().zip(&plan.ends) {
+    for (i, (line, &(dot, _))) in plan.lines.iter().zip(&plan.ends).enumerate() {
         let (lot, ends) = (plan.lots[dot], ends_of(line, plan.view.digits));
-        writeln!(svg, "<line id=\"line-{lot}\" {ends}><title>line of lot {lot}</title></line>").unwrap();
+        let (look, held) = if plan.held[i] { (held_look(plan), ", held") } else { (String::new(), "") };
+        writeln!(svg, "<line id=\"line-{lot}\" {ends}{look}><title>line of lot {lot}{held}</title></line>").unwrap();
     }
     svg.push_str("</g>\n");
+}
+
+/// How a held line looks, as attributes.
+fn held_look(plan: &Plan) -> String {
+    format!(" stroke=\"#000\" stroke-width=\"{:.2}\"", plan.heavy())
 }
 
 /// A path, what is said of it, and an arrow along its direction in the page's scales.
@@ -214,6 +225,18 @@ fn trace(svg: &mut String, sheet: &Sheet, plan: &Plan, (u, v): (u32, u32), colou
         points.join(" ")
     )
     .unwrap();
+    path.windows(2).for_each(|step| held_dashes(svg, sheet, plan, (step[0], step[1])));
+}
+
+/// Where a path steps from lot to lot over a held line, that line again, in dashes: so both are seen.
+fn held_dashes(svg: &mut String, sheet: &Sheet, plan: &Plan, (a, b): (u32, u32)) {
+    let lot = if sheet.tree().parents()[a as usize] == b { a } else { b };
+    let Some((from, to)) = plan.dot_of[a as usize].zip(plan.dot_of[b as usize]) else { return };
+    if sheet.held()[lot as usize] == 1 {
+        let ends = ends_of(&Segment { from: plan.dots[from], to: plan.dots[to] }, plan.view.digits);
+        let look = held_look(plan) + " stroke-dasharray=\"9 9\"";
+        writeln!(svg, "<line {ends}{look}><title>line of lot {lot}, held</title></line>").unwrap();
+    }
 }
 
 /// The lot that a path does not leave: its dot in a ring, less wide than labels keep away from dots.
@@ -256,6 +279,9 @@ fn about(sheet: &Sheet, names: &[String], lot: u32) -> String {
     }
     let (x, y) = sheet.place(lot).unwrap_or_default();
     write!(text, ", at ({x}, {y})").unwrap();
+    if sheet.held()[lot as usize] == 1 {
+        text.push_str(", its line is held");
+    }
     text
 }
 

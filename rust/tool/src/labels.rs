@@ -29,12 +29,15 @@ pub struct Label {
     pub leader: Option<Segment>,
 }
 
-/// The drawing that the labels are put into: dot i has radius i, and line i joins two dots.
+/// The drawing that the labels are put into: dot i has radius i, and line i joins two dots and may be held.
 pub struct Scene<'a> {
     pub dots: &'a [Point],
     pub radii: &'a [f64],
     pub lines: &'a [Segment],
     pub ends: &'a [(usize, usize)],
+    pub held: &'a [bool],
+    /// What a held line takes to either side beyond what others do; 0 where none is held.
+    pub excess: f64,
     /// Where labels may stand.
     pub area: Box,
     pub size: f64,
@@ -165,8 +168,9 @@ impl Placing<'_> {
     fn struck(&self, b: &Box) -> bool {
         let scene = self.scene;
         let middle = Point { x: (b.left + b.right) / 2.0, y: (b.top + b.bottom) / 2.0 };
-        let mut near = scene.line_cells.near(&Box::around(middle, 0.0)).chain(scene.line_cells.near(b));
-        near.any(|i| b.is_cut_by(&scene.lines[i]))
+        let wide = b.grown(scene.excess);
+        let mut near = scene.line_cells.near(&Box::around(middle, 0.0)).chain(scene.line_cells.near(&wide));
+        near.any(|i| if scene.held[i] { &wide } else { b }.is_cut_by(&scene.lines[i]))
     }
 
     /// Whether the box's own dot is the nearest by far.

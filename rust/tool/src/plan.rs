@@ -9,6 +9,8 @@ pub const MARGIN: f64 = 56.0;
 pub const ROW: f64 = 18.0;
 /// A hairline: the least width of a line, and the least diameter of a dot.
 const HAIR: f64 = 0.3;
+/// The width of a held line, in widths of the others, and the least: it must be told from them without colours.
+const HEAVY: (f64, f64) = (2.6, 1.5);
 
 /// What is to be drawn of a sheet, and how.
 pub struct Ask {
@@ -93,15 +95,40 @@ pub struct Plan {
     pub lines: Vec<Segment>,
     /// The dots that each line joins, the lot's own first.
     pub ends: Vec<(usize, usize)>,
+    /// Whether each line is held, and how many are.
+    pub held: Vec<bool>,
+    pub held_lines: usize,
     pub radii: Vec<f64>,
     /// How many dots are nearer a dot or a line of another lot than the smallest dot is large.
     pub touching: usize,
+    /// The width of lines that are not held.
     pub stroke: f64,
     /// The size of the numbers.
     pub size: f64,
     pub cells: Cells,
     pub dot_cells: Fixed,
     pub line_cells: Fixed,
+}
+
+impl Plan {
+    /// The width of a held line.
+    pub fn heavy(&self) -> f64 {
+        heavy(self.stroke)
+    }
+
+    /// What a held line takes to either side beyond what others do; 0 where none is held.
+    pub fn excess(&self) -> f64 {
+        if self.held_lines > 0 {
+            (self.heavy() - self.stroke) / 2.0
+        } else {
+            0.0
+        }
+    }
+}
+
+/// The width of a held line where others have this one; as it is written, so that what touches it is told rightly.
+fn heavy(stroke: f64) -> f64 {
+    rounded((HEAVY.0 * stroke).max(HEAVY.1), 2)
 }
 
 pub fn plan(sheet: &Sheet, ask: &Ask) -> Plan {
@@ -115,13 +142,30 @@ pub fn plan(sheet: &Sheet, ask: &Ask) -> Plan {
     let parent = |v: u32| dot_of[sheet.tree().parents()[v as usize] as usize];
     let below = lots.iter().enumerate().filter(|(_, &v)| v != ask.root);
     let ends: Vec<(usize, usize)> = below.filter_map(|(i, &v)| Some((i, parent(v)?))).collect();
+    let held: Vec<bool> = ends.iter().map(|&(v, _)| sheet.held()[lots[v] as usize] == 1).collect();
+    let held_lines = held.iter().filter(|&&held| held).count();
     let lines: Vec<Segment> = ends.iter().map(|&(v, p)| Segment { from: dots[p], to: dots[v] }).collect();
     let cells = Cells::of(ask.page.width, ask.page.height);
     let (dot_cells, line_cells) = (Fixed::points(cells, &dots), Fixed::segments(cells, &lines));
     let size = if lots.len() <= 40 { 14.0 } else { 9.0 };
     let (radii, touching, stroke) = (Vec::new(), 0, HAIR);
-    let mut plan =
-        Plan { view, lots, dot_of, dots, lines, ends, radii, touching, stroke, size, cells, dot_cells, line_cells };
+    let mut plan = Plan {
+        view,
+        lots,
+        dot_of,
+        dots,
+        lines,
+        ends,
+        held,
+        held_lines,
+        radii,
+        touching,
+        stroke,
+        size,
+        cells,
+        dot_cells,
+        line_cells,
+    };
     shrink(&mut plan);
     plan
 }
@@ -181,10 +225,13 @@ fn room(plan: &Plan, dot: usize, largest: f64, stroke: f64) -> f64 {
     }
     // the lines of the next lots are often the nearest, and end the search early in a crowd
     let next = dot.saturating_sub(8)..plan.lines.len().min(dot + 8);
-    for line in next.chain(plan.line_cells.near(&Box::around(at, largest + stroke))) {
+    let heavy = heavy(stroke);
+    let widest = if plan.held_lines > 0 { heavy } else { stroke };
+    for line in next.chain(plan.line_cells.near(&Box::around(at, largest + widest))) {
         let (a, b) = plan.ends[line];
         if a != dot && b != dot {
-            room = room.min(plan.lines[line].distance(at) - stroke / 2.0);
+            let width = if plan.held[line] { heavy } else { stroke };
+            room = room.min(plan.lines[line].distance(at) - width / 2.0);
             if room < HAIR / 2.0 {
                 return room;
             }

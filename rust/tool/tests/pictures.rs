@@ -4,7 +4,7 @@
 mod common;
 
 use common::{fails, file, out, tree};
-use std::collections::{HashMap, HashSet};
+use std::collections::{BTreeSet, HashMap, HashSet};
 
 /// What a character takes across, and what letters take above and below their line, in parts of the font's size.
 const ADVANCE: f64 = 0.6;
@@ -31,6 +31,8 @@ struct Text {
 struct Picture {
     dots: HashMap<u32, Circle>,
     lines: HashMap<u32, (Point, Point)>,
+    /// The widths of the lines that are held.
+    heavy: HashMap<u32, f64>,
     labels: HashMap<u32, Text>,
     leaders: HashMap<u32, (Point, Point)>,
     stroke: f64,
@@ -55,7 +57,7 @@ fn content(element: &str) -> String {
 }
 
 fn read(svg: &str) -> Picture {
-    let (mut dots, mut lines, mut labels, mut leaders) = Default::default();
+    let (mut dots, mut lines, mut heavy, mut labels, mut leaders) = Default::default();
     let (mut rows, mut stroke, mut size) = (Vec::new(), 0.0, 0.0);
     for element in svg.lines() {
         let id = attribute(element, "id").unwrap_or("");
@@ -70,6 +72,13 @@ fn read(svg: &str) -> Picture {
             HashMap::insert(&mut dots, lot, dot);
         } else if id.starts_with("line-") {
             HashMap::insert(&mut lines, lot, ends(element));
+            let title = content(element);
+            assert_eq!(attribute(element, "stroke"), title.ends_with(", held").then_some("#000"), "{element}");
+            if title == format!("line of lot {lot}, held") {
+                HashMap::insert(&mut heavy, lot, number(element, "stroke-width"));
+            } else {
+                assert_eq!((title, attribute(element, "stroke-width")), (format!("line of lot {lot}"), None));
+            }
         } else if id.starts_with("leader-") {
             HashMap::insert(&mut leaders, lot, ends(element));
         } else if id.starts_with("label-") {
@@ -83,7 +92,14 @@ fn read(svg: &str) -> Picture {
             rows.push(content(element));
         }
     }
-    Picture { dots, lines, labels, leaders, stroke, rows }
+    Picture { dots, lines, heavy, labels, leaders, stroke, rows }
+}
+
+impl Picture {
+    /// The width of a lot's line.
+    fn width(&self, lot: u32) -> f64 {
+        self.heavy.get(&lot).copied().unwrap_or(self.stroke)
+    }
 }
 
 fn distance(a: Point, b: Point) -> f64 {
@@ -137,7 +153,7 @@ fn readable(what: &str, p: &Picture, asked: &[u32]) {
             assert!(label.distance(dot.at) > dot.r, "{what}: dot {other} touches label {lot}");
         }
         for (&other, &line) in &p.lines {
-            assert!(!label.is_struck_by(line, p.stroke), "{what}: line {other} touches label {lot}");
+            assert!(!label.is_struck_by(line, p.width(other)), "{what}: line {other} touches label {lot}");
         }
         for (&other, text) in p.labels.iter().filter(|(&other, _)| other != lot) {
             assert!(!label.meets(text), "{what}: labels {lot} and {other} meet");
@@ -192,12 +208,16 @@ fn honest(what: &str, p: &Picture, lots: usize) {
     assert_eq!(places.len(), lots, "{what}: places fall together");
     let touching = p.dots.iter().filter(|(&lot, dot)| {
         let lines = p.lines.iter().filter(|(&other, line)| other != lot && line.0 != dot.at);
-        let on_line = lines.map(|(_, &line)| to_segment(dot.at, line) - p.stroke / 2.0).any(|room| room < dot.r);
+        let rooms = lines.map(|(&other, &line)| to_segment(dot.at, line) - p.width(other) / 2.0);
+        let on_line = rooms.into_iter().any(|room| room < dot.r);
         let others = p.dots.iter().filter(|(&other, _)| other != lot);
         on_line || others.map(|(_, other)| distance(dot.at, other.at)).any(|far| far < 2.0 * dot.r)
     });
     let told = remarked(p, " dots touch") + remarked(p, " dot touches");
     assert_eq!(touching.count(), told, "{what}: dots that touch another's dot or line");
+    let held = remarked(p, " line is held: heavy and black") + remarked(p, " lines are held: heavy and black");
+    assert_eq!(p.heavy.len(), held, "{what}: held lines");
+    assert!(p.heavy.values().all(|&wide| wide >= 1.5 && wide >= 2.5 * p.stroke), "{what}: held lines are heavy");
 }
 
 fn kinds(n: u32) -> Vec<(&'static str, Vec<u32>)> {
@@ -233,6 +253,52 @@ fn numbers_are_read_at_their_own_dots() {
             }
         }
     }
+}
+
+/// Few and many held lines, under a path too.
+#[test]
+fn held_lines_are_told_without_colours() {
+    for n in [2, 5, 30, 100, 300] {
+        for (kind, parents) in kinds(n) {
+            let file = tree(&format!("picture-held-{kind}-{n}.tree"), &parents);
+            for every in [1, 7, n - 1] {
+                let held: Vec<u32> = (1..n).filter(|lot| lot % every == 0).collect();
+                let options: Vec<String> = held.iter().map(|lot| format!("--hold={lot}")).collect();
+                let path = format!("--path={}:{}", n / 2, n - 1);
+                let words = ["draw", &file, "--rule=balanced", &path].into_iter();
+                let svg = out(&words.chain(options.iter().map(String::as_str)).collect::<Vec<_>>());
+                let (what, picture) = (format!("{kind} of {n}, every {every}"), read(&svg));
+                assert_eq!(picture.heavy.keys().copied().collect::<BTreeSet<_>>(), held.into_iter().collect());
+                readable(&what, &picture, &[n / 2, n - 1]);
+                honest(&what, &picture, n as usize);
+            }
+        }
+    }
+}
+
+#[test]
+fn a_held_line_of_the_five_lots() {
+    let five = common::five("picture-held.tree");
+    let picture = |words: &[&str]| out(&[&["draw", &five], words].concat());
+    let svg = picture(&["--hold", "3", "--hold", "1", "--path", "4:2"]);
+    assert!(
+        svg.contains("<title>line of lot 3, held</title>") && svg.contains(">2 lines are held: heavy and black<")
+    );
+    assert!(svg.contains("<title>lot 3, parent 1, at (2, 4), its line is held</title>"), "{svg}");
+    // the path goes over the line of lot 1, which shows between its dashes, and not over that of lot 3
+    let dashed: Vec<&str> = svg.lines().filter(|line| line.starts_with("<line") && line.contains("dash")).collect();
+    assert!(dashed.len() == 1 && dashed[0].contains("<title>line of lot 1, held</title>"), "{svg}");
+    assert_eq!(ends(dashed[0]), {
+        let (a, b) = read(&svg).lines[&1];
+        (b, a)
+    });
+    assert_eq!(number(dashed[0], "stroke-width"), read(&svg).heavy[&1]);
+    // what is free looks as it always did, and what is not drawn is not told
+    assert_eq!(picture(&["--hold", "3", "--free", "3", "--mark", "2"]), picture(&["--mark", "2"]));
+    let part = picture(&["--hold", "1", "--root", "1"]);
+    assert!(!part.contains("heavy") && part.contains("<title>lot 1, parent 0, at (1, 3), its line is held</title>"));
+    let part = picture(&["--hold", "1", "--hold", "4", "--root", "1"]);
+    assert!(part.contains(">1 line is held: heavy and black<"), "{part}");
 }
 
 #[test]
