@@ -6,6 +6,7 @@
 --   Stretching L .. v c s t o   == the outcome o of a call is its frame, and of s and t, the shorter and the longer
 --                                  drawing, one was given and the other is left; v's edge is free, and held as it was
 --   lengthen-does, shorten-does == lengthen and shorten refuse or stretch
+--   lengthen-accepted, ..       == what an accepted one was given, and what it left
 --   shorten-undoes              == shorten undoes lengthen
 --   lengthen-0, shorten-0       == of a free edge count 0 changes nothing and is no ground for a refusal
 use mathlib.Core.Bool.{Bool, true, false, _||_}
@@ -166,6 +167,25 @@ module _ (L : Limits) (P R : List ℕ) (rule : Rule) (s : Sheet) (work v c : ℕ
       unstretch-drawn tree (x .above) (x .inside) (shorter-stretch tree (x .above) (x .inside) drawn (omega arith))
       drawn less
 
+  -- what an accepted call was given, and what it left
+  pub lengthen-accepted : {w h : ℕ} {t : Sheet}
+      → lengthen L P R rule s work v c ≡ record { answer = Frame w h; left = t }
+      → Free L P R rule s work v × (beyond (L .place) (length P) on ≡ false) × (onSheet ≡ t)
+  unfolding lengthen
+  lengthen-accepted e =
+      let f = settled s onSheet (frame on) (stretchFault L P R rule s work v orElse tooFar) e in
+      let parts = orElse-none (stretchFault L P R rule s work v) tooFar (f .0) in
+      (free L P R rule s work v (parts .0), refuse-none _ (L .far) v (parts .1), f .1)
+
+  pub shorten-accepted : {w h : ℕ} {t : Sheet}
+      → shorten L P R rule s work v c ≡ record { answer = Frame w h; left = t }
+      → Free L P R rule s work v × (c < getD (s .drawing .times) v 0) × (backSheet ≡ t)
+  unfolding shorten
+  shorten-accepted e =
+      let f = settled s backSheet (frame back) (stretchFault L P R rule s work v orElse tooShort) e in
+      let parts = orElse-none (stretchFault L P R rule s work v) tooShort (f .0) in
+      (free L P R rule s work v (parts .0), leb-false _ c (refuse-none _ 12 v (parts .1)), f .1)
+
   pub lengthen-does : (let o = lengthen L P R rule s work v c in
       Untouched s o ⊎ Stretching L P R rule v c (s .held) (s .drawing) (o .left .drawing) o)
   unfolding lengthen
@@ -242,15 +262,10 @@ undone L P R rule s work v c f near =
 pub shorten-undoes : (L : Limits) (P R : List ℕ) (rule : Rule) (s : Sheet) (work v c w h : ℕ) (t : Sheet)
     → lengthen L P R rule s work v c ≡ record { answer = Frame w h; left = t }
     → shorten L P R rule t work v c ≡ record { answer = frame (s .drawing); left = s }
-unfolding lengthen
 shorten-undoes L P R rule s work v c w h t e =
-    let own = tooFar L P R rule s work v c in
-    let f =
-    settled s (onSheet L P R rule s work v c) (frame (on L P R rule s work v c))
-    (stretchFault L P R rule s work v orElse own) e in
-    let parts = orElse-none (stretchFault L P R rule s work v) own (f .0) in
-    subst (λ u. shorten L P R rule u work v c ≡ record { answer = frame (s .drawing); left = s }) (f .1)
-    (undone L P R rule s work v c (free L P R rule s work v (parts .0)) (refuse-none _ (L .far) v (parts .1)))
+    let a = lengthen-accepted L P R rule s work v c e in
+    subst (λ u. shorten L P R rule u work v c ≡ record { answer = frame (s .drawing); left = s }) (a .2)
+    (undone L P R rule s work v c (a .0) (a .1))
 
 module _ (L : Limits) (P R : List ℕ) (rule : Rule) (s : Sheet) (work v : ℕ) where
   -- by cases on refusals 1 to 10 and 22: with a refusal nothing is to be shown

@@ -9,13 +9,11 @@ use mathlib.Core.Bool.{true, not, _&&_}
 use mathlib.Core.List.{List}
 use mathlib.Core.Option.{Option, none, some}
 use mathlib.Core.Path.{_≡_, refl, sym, ap, subst, _∙_}
-use Prim.Native.Nat.{ℕ, _+_, _*_, _<_}
+use Prim.Native.Nat.{ℕ, _+_, _*_, _≤_, _<_}
 use native.Mathlib.Omega.{arith}
 use lib.Dec.{ltb, leb, eqb}
 use lib.ListN.{length, getD}
-use borrow.Author.Tests.{leb-false}
-use Rattle.laws.specs.Refusals.{refusal, orElse-first, orElse-second, orElse-none, refuse-yes, refuse-none}
-use Rattle.laws.specs.Refusals.{settle-some}
+use Rattle.laws.specs.Refusals.{refusal, orElse-first, orElse-second, refuse-yes, settle-some}
 use Rattle.laws.specs.Search.{Refusal, refuse, _orElse_, Outcome}
 use Rattle.laws.specs.SearchLaws.{least-cong}
 use Rattle.table.specs.Ancestry.{under-on}
@@ -25,11 +23,10 @@ use Rattle.table.specs.TableLaws.{Tree}
 use Rattle.slopes.specs.declared.Rule.{Rule}
 use Rattle.slopes.specs.Slopes.{acrossOf, upOf, edge}
 use Rattle.drawing.specs.declared.Framed.{Framed}
-use Rattle.drawing.specs.CallLaws.{settled}
 use Rattle.drawing.specs.declared.Framed.the-variants.{Frame, Refused}
-use Rattle.drawing.specs.Drawing.{Drawing, Sheet, sheetOf, lengthsFit, frame, nodeFits, lotFits, sheetFault, redrawn}
+use Rattle.drawing.specs.Drawing.{Drawing, Sheet, sheetOf, lengthsFit, nodeFits, lotFits, sheetFault, redrawn}
 use Rattle.drawing.specs.SheetLaws.{Held, held-fits}
-use Rattle.stretching.specs.CallLaws.{free}
+use Rattle.stretching.specs.CallLaws.{lengthen-accepted, shorten-accepted}
 use Rattle.stretching.specs.Stretching.{beyond, edgeFault, lotFault, isHeld, stretchFault, lengthen, shorten}
 use Rattle.stretching.specs.StretchLaws.{shorter, longer, Moved, Stretch, offset-in, longer-stretch}
 use Rattle.stretching.specs.StretchLaws.{shorter-stretch}
@@ -135,32 +132,24 @@ along {P} {R} {rule} {v} {c} {s} {t} tree m z l below other =
         → getD Y w 0 ≡ getD X w 0 + d
     goes {d} k w l u = omega (arith, k .at w l, offset-in P v d w u)
 
-module _ (L : Limits) (P R : List ℕ) (rule : Rule) (s : Sheet) (work v c w h : ℕ) (t : Sheet) where
-  pub lengthen-along : lengthen L P R rule s work v c ≡ record { answer = Frame w h; left = t } → (z : ℕ) → z < length P
-      → under P v z ≡ true → (z ≡ v → ⊥) → Along P R rule v c (s .drawing) (t .drawing) z
-  unfolding lengthen
-  lengthen-along e z =
-      let new = longer P R rule (s .drawing) v c in
-      let own = refuse (beyond (L .place) (length P) new) (L .far) v in
-      let f =
-      settled s (sheetOf new (s .held)) (frame new) (stretchFault L P R rule s work v orElse own) e in
-      let x = free L P R rule s work v (orElse-none (stretchFault L P R rule s work v) own (f .0) .0) .examined in
-      subst (λ u. z < length P → under P v z ≡ true → (z ≡ v → ⊥) → Along P R rule v c (s .drawing) (u .drawing) z)
-      (f .1)
-      (along (x .inspected .accepting .tree) (longer-stretch (x .inspected .sound .drawn) (x .inside)) z)
+module _ (L : Limits) (P R : List ℕ) (rule : Rule) (s : Sheet) (work v c : ℕ) {w h : ℕ} {t : Sheet} (z : ℕ)
+    (inside : z < length P) (below : under P v z ≡ true)
+    (other : z ≡ v → ⊥) where
+  pub lengthen-along : lengthen L P R rule s work v c ≡ record { answer = Frame w h; left = t }
+      → Along P R rule v c (s .drawing) (t .drawing) z
+  lengthen-along e =
+      let a = lengthen-accepted L P R rule s work v c e in
+      let x = a .0 .examined in
+      subst (λ u. Along P R rule v c (s .drawing) (u .drawing) z) (a .2)
+      (along (x .inspected .accepting .tree) (longer-stretch (x .inspected .sound .drawn) (x .inside)) z inside below
+      other)
 
-  pub shorten-along : shorten L P R rule s work v c ≡ record { answer = Frame w h; left = t } → (z : ℕ) → z < length P
-      → under P v z ≡ true → (z ≡ v → ⊥) → Along P R rule v c (t .drawing) (s .drawing) z
-  unfolding shorten
-  shorten-along e z =
-      let new = shorter P R rule (s .drawing) v c in
-      let own = refuse (leb (getD (s .drawing .times) v 0) c) 12 v in
-      let f =
-      settled s (sheetOf new (s .held)) (frame new) (stretchFault L P R rule s work v orElse own) e in
-      let parts = orElse-none (stretchFault L P R rule s work v) own (f .0) in
-      let x = free L P R rule s work v (parts .0) .examined in
-      let less : c < getD (s .drawing .times) v 0 = leb-false _ c (refuse-none _ 12 v (parts .1)) in
+  pub shorten-along : shorten L P R rule s work v c ≡ record { answer = Frame w h; left = t }
+      → Along P R rule v c (t .drawing) (s .drawing) z
+  shorten-along e =
+      let a = shorten-accepted L P R rule s work v c e in
+      let x = a .0 .examined in
       let tree = x .inspected .accepting .tree in
-      subst (λ u. z < length P → under P v z ≡ true → (z ≡ v → ⊥) → Along P R rule v c (u .drawing) (s .drawing) z)
-      (f .1)
-      (along tree (shorter-stretch tree (x .above) (x .inside) (x .inspected .sound .drawn) (omega arith)) z)
+      let less : c ≤ getD (s .drawing .times) v 0 = omega (arith, a .1) in
+      subst (λ u. Along P R rule v c (u .drawing) (s .drawing) z) (a .2)
+      (along tree (shorter-stretch tree (x .above) (x .inside) (x .inspected .sound .drawn) less) z inside below other)
