@@ -38,6 +38,7 @@ use Rattle.drawing.specs.PathLaws.{adds-path, path-cong}
 use Rattle.drawing.specs.SheetLaws.{Sound}
 use Rattle.stretching.specs.CallLaws.{Untouched, Stretching, lengthen-does, shorten-does}
 use Rattle.stretching.specs.Stretching.{isHeld, lengthen, shorten}
+use Rattle.stretching.specs.StretchLaws.{Stretch}
 use Rattle.holding.specs.Holding.{entry, hold}
 use Rattle.holding.specs.HoldLaws.{Marking, hold-does, held-here, held-others}
 use Rattle.direction.specs.declared.Heading.the-variants.{Along}
@@ -63,6 +64,20 @@ counts-here v z k e = rw (eq-eqb v z e) refl
 
 counts-nowhere : (v z k : ℕ) → (v ≡ z → ⊥) → cond (eqb v z) k 0 ≡ 0
 counts-nowhere v z k ne = rw (ne-eqb v z ne) refl
+
+-- a stretched edge gets its count, and no other anything
+stretch-counts : {P R : List ℕ} {rule : Rule} {v c : ℕ} {a b : Drawing} → Stretch P R rule v c a b → (z : ℕ)
+    → z < length P → getD (b .times) z 0 ≡ getD (a .times) z 0 + cond (eqb v z) c 0
+stretch-counts {v = v} {c} {a} {b} m z l =
+    by-eq v z
+    (λ e. omega (
+      arith,
+      ap (λ (y : ℕ). getD (a .times) y 0) e,
+      ap (λ (y : ℕ). getD (b .times) y 0) e,
+      m .here,
+      counts-here v z c e,
+    ))
+    (λ ne. omega (arith, m .other z l (λ e. ne (sym e)), counts-nowhere v z c ne))
 
 -- a call that does not free z, and is about z, holds it
 not-freed : (on : Bool) (v z : ℕ) → v ≡ z → _≡_ {A = ℕ} (cond on 0 (cond (eqb v z) 1 0)) 0 → on ≡ true
@@ -125,21 +140,12 @@ module _ (L : Limits) (P R : List ℕ) (rule : Rule) where
       (λ (m : Stretching L P R rule v k (s .held) (s .drawing) (lengthen L P R rule s work v k .left .drawing)
       (lengthen L P R rule s work v k)). record {
         sound = m .sound;
-        times = λ z l. by-eq v z
-            (λ e. omega (
-              arith,
-              ap (λ (y : ℕ). getD (lengthen L P R rule s work v k .left .drawing .times) y 0) e,
-              ap (λ (y : ℕ). getD (s .drawing .times) y 0) e,
-              m .stretch .here,
-              accepted-share takes s (Lengthen v k work) z (m .answer),
-              accepted-share adds s (Lengthen v k work) z (m .answer) ∙ counts-here v z k e,
-            ))
-            (λ ne. omega (
-              arith,
-              m .stretch .other z l (λ e. ne (sym e)),
-              accepted-share takes s (Lengthen v k work) z (m .answer),
-              accepted-share adds s (Lengthen v k work) z (m .answer) ∙ counts-nowhere v z k ne,
-            ));
+        times = λ z l. omega (
+          arith,
+          stretch-counts (m .stretch) z l,
+          accepted-share adds s (Lengthen v k work) z (m .answer),
+          accepted-share takes s (Lengthen v k work) z (m .answer),
+        );
         keeps = λ z l h f. stretched-keeps s m (m .stretch .other) z l h;
       })
       (lengthen-does L P R rule s work v k)
@@ -148,21 +154,12 @@ module _ (L : Limits) (P R : List ℕ) (rule : Rule) where
       (λ (m : Stretching L P R rule v k (s .held) (shorten L P R rule s work v k .left .drawing) (s .drawing)
       (shorten L P R rule s work v k)). record {
         sound = m .sound;
-        times = λ z l. by-eq v z
-            (λ e. omega (
-              arith,
-              ap (λ (y : ℕ). getD (shorten L P R rule s work v k .left .drawing .times) y 0) e,
-              ap (λ (y : ℕ). getD (s .drawing .times) y 0) e,
-              m .stretch .here,
-              accepted-share adds s (Shorten v k work) z (m .answer),
-              accepted-share takes s (Shorten v k work) z (m .answer) ∙ counts-here v z k e,
-            ))
-            (λ ne. omega (
-              arith,
-              m .stretch .other z l (λ e. ne (sym e)),
-              accepted-share adds s (Shorten v k work) z (m .answer),
-              accepted-share takes s (Shorten v k work) z (m .answer) ∙ counts-nowhere v z k ne,
-            ));
+        times = λ z l. omega (
+          arith,
+          stretch-counts (m .stretch) z l,
+          accepted-share adds s (Shorten v k work) z (m .answer),
+          accepted-share takes s (Shorten v k work) z (m .answer),
+        );
         keeps = λ z l h f. stretched-keeps s m (λ w b ne. sym (m .stretch .other w b ne)) z l h;
       })
       (shorten-does L P R rule s work v k)
