@@ -1,15 +1,15 @@
 -- Stretching an edge: the limit's test, what the moves write, and the outcomes of lengthen and shorten.
 use mathlib.Core.Bool.{Bool, true, false}
 use mathlib.Core.List.{List}
-use mathlib.Core.Option.{Option, none}
+use mathlib.Core.Option.{none}
 use mathlib.Core.Path.{_≡_, refl, sym, ap, subst, subst⁻¹, _∙_}
 use Prim.Native.Nat.{ℕ, _+_, _*_, _^_, _≤_, _<_}
 use native.Mathlib.Omega.{arith}
 use lib.ListN.{length, getD, set}
 use borrow.Author.Tests.{le-leb, lt-leb}
-use Rattle.laws.specs.Refusals.{refusal, orElse-first, orElse-second, refuse-yes, refuse-no, settle-none, settle-some}
-use Rattle.laws.specs.Search.{Refusal, _orElse_}
+use Rattle.laws.specs.Refusals.{orElse-first, orElse-second, refuse-yes, refuse-no, settle-none, settle-some}
 use Rattle.laws.specs.Tests.{by-test, differ}
+use Rattle.table.specs.Acceptance.{validity, validity-accepted, validity-refused}
 use Rattle.table.specs.declared.Limits.{Limits}
 use Rattle.table.specs.declared.Validity.{Validity}
 use Rattle.table.specs.declared.Validity.the-variants.{Accepted, Refused}
@@ -18,16 +18,19 @@ use Rattle.table.specs.Table.{under}
 use Rattle.slopes.specs.declared.Rule.{Rule}
 use Rattle.slopes.specs.declared.Slope.{Slope}
 use Rattle.slopes.specs.Slopes.{acrossOf, upOf, edge}
+use Rattle.drawing.specs.CallLaws.{inspected-again}
 use Rattle.drawing.specs.declared.Framed.{Framed}
 use Rattle.drawing.specs.declared.Framed.the-variants as framed
-use Rattle.drawing.specs.Drawing.{Drawing, lent, Sheet, sheetOf, frame, redrawn, OnSheet}
+use Rattle.drawing.specs.Drawing.{Drawing, lent, Sheet, sheetOf, frame, OnSheet}
 use Rattle.drawing.specs.DrawingLaws.{Coordinate, Drawn, drawn-times, same-drawing}
 use Rattle.drawing.specs.Parts.{FramesFit}
 use Rattle.stretching.specs.CallLaws.{Examined, free, beyond-x, beyond-y, no-beyond, longer-drawn, shorter-drawn}
-use Rattle.stretching.specs.Parts.{by, Unheld, Passes, Movable, Stretchable}
-use Rattle.stretching.specs.Stretching.{moved, stretched, beyond, stretchFault, lengthen, shorten}
+use Rattle.stretching.specs.Parts.{by, freeFault, Inspecting, Unheld, Passes, Movable, Stretchable, Opened}
+use Rattle.stretching.specs.Parts.{framing}
+use Rattle.stretching.specs.Stretching.{moved, stretched, beyond, lotFault, stretchFault, lengthen, shorten}
 use Rattle.stretching.specs.StretchLaws.{shorter, longer, Moved, offset-in, moved-in, moved-out}
 use Rattle.stretching.specs.StretchLaws.{longer-stretch, back-room}
+use Rattle.stretching.proofs.Examining.{on-sheet}
 
 ------------------------------------------------------------------------
 -- The limit
@@ -113,138 +116,177 @@ stretched-is {P} {s = s} {v = v} {c} {longer} x is across up et ek p q r =
     (r ∙ ap (λ k. moved P (λ a. by longer a k) v (s .y)) (up ∙ ap (λ (k : Slope). c * k .up) is))
 
 ------------------------------------------------------------------------
--- The outcomes
+-- Lengthen
 
-module _ {L : Limits} {P R : List ℕ} (rule : Rule) {s : Sheet} {W : List ℕ} (v : ℕ) {X : List ℕ} {r : Validity}
-    (k : Unheld L P R rule s W v X r) where
-  -- both calls are refusals 1 to 10 and 22, then one of their own, then the new drawing
-  abbrev After : Option Refusal → Drawing → Drawing → Framed → Type 0
-  After own new t a =
-      OnSheet L P R s W (sheetOf t (s .held)) X a
-      (redrawn (stretchFault L P R rule s (length W) v orElse own) s (sheetOf new (s .held)))
+-- of a sheet that is accepted
+module _ {L : Limits} {P R : List ℕ} (rule : Rule) {s : Sheet} {W : List ℕ} (o : Opened L P R rule s W) (v : ℕ)
+    {r : Validity} (is : r ≡ validity (freeFault (s .held) v)) where
+  past-8 : stretchFault L P R rule s (length W) v ≡ freeFault (s .held) v
+  past-8 =
+      on-sheet L P R rule s (length W) v (inspected-again (o .inspected) (o .inspected .sound))
+      (o .inspected .sound .held .long)
 
-  refused : {a z : ℕ} (own : Option Refusal) (new : Drawing) → r ≡ Refused a z
-      → After own new (s .drawing) (framed.Refused a z)
-  refused own new e = record {
-    says = sym (settle-some framed.Refused s (frame new) (sheetOf new (s .held)) _ (orElse-first _ own (fault k e)));
-    spared = k .spared;
-    long = k .long;
-  }
+  unrefused : r ≡ Accepted → stretchFault L P R rule s (length W) v ≡ none
+  unrefused ok = past-8 ∙ validity-accepted _ (sym is ∙ ok)
 
-  module _ (ok : r ≡ Accepted) where
-    own-refused : {a z : ℕ} (own : Option Refusal) (new : Drawing) → own ≡ refusal a z
-        → After own new (s .drawing) (framed.Refused a z)
-    own-refused own new e = record {
-      says = sym (settle-some framed.Refused s (frame new) (sheetOf new (s .held)) _
-          (orElse-second _ own (no-fault k ok) ∙ e));
-      spared = k .spared;
-      long = k .long;
-    }
-
-    renewed : (own : Option Refusal) (new : Drawing) {t : Drawing} {q : Framed} → own ≡ none → t ≡ new → q ≡ frame t
-        → After own new t q
-    renewed own new {t} e is fr = record {
-      says = ap (λ (a : Framed). record { answer = a; left = sheetOf t (s .held) }) fr
-          ∙ ap (λ (u : Drawing). record { answer = frame u; left = sheetOf u (s .held) }) is
-          ∙ sym (settle-none framed.Refused s (frame new) (sheetOf new (s .held)) _
-          (orElse-second _ own (no-fault k ok) ∙ e));
-      spared = k .spared;
-      long = k .long;
-    }
-
-    pub examined-of : Examined L P R rule s (length W) v
-    examined-of = free L P R rule s (length W) v (no-fault k ok) .examined
+  pub examined-of : r ≡ Accepted → Examined L P R rule s (length W) v
+  examined-of ok = free L P R rule s (length W) v (unrefused ok) .examined
 
   module _ (c : ℕ) where
     abbrev on : Drawing
     on = longer P R rule (s .drawing) v c
 
+    abbrev Lengthened : Drawing → Validity → Type 0
+    Lengthened t a = framing a (sheetOf t (s .held)) ≡ lengthen L P R rule s (length W) v c
+
+    pub lengthened-refused : {k z : ℕ} → r ≡ Refused k z → Lengthened (s .drawing) (Refused k z)
+    unfolding lengthen framing
+    lengthened-refused {k} {z} e =
+        sym (settle-some framed.Refused s (frame on) (sheetOf on (s .held)) _
+        (orElse-first _ _ (past-8 ∙ validity-refused _ k z (sym is ∙ e))))
+
+    module _ (ok : r ≡ Accepted) {q : Bool} (far : q ≡ beyond (L .place) (length P) on) where
+      pub lengthened-beyond : q ≡ true → Lengthened (s .drawing) (Refused (L .far) v)
+      unfolding lengthen framing
+      lengthened-beyond t =
+          sym (settle-some framed.Refused s (frame on) (sheetOf on (s .held)) _
+          (orElse-second _ _ (unrefused ok) ∙ refuse-yes _ (L .far) v (sym far ∙ t)))
+
+      module _ (f : q ≡ false) where
+        pub lengthened : {t : Drawing} → t ≡ on → Lengthened t Accepted
+        unfolding lengthen framing
+        lengthened new =
+            ap (λ (u : Drawing). framing Accepted (sheetOf u (s .held))) new
+            ∙ sym (settle-none framed.Refused s (frame on) (sheetOf on (s .held)) _
+            (orElse-second _ _ (unrefused ok) ∙ refuse-no _ (L .far) v (sym far ∙ f)))
+
+        -- within the limit, the longer drawing has times and places that fit
+        pub can-lengthen : FramesFit L → Stretchable P R rule (s .drawing) W v c true
+        unfolding stretched
+        can-lengthen low =
+            let x = examined-of ok in
+            let m = longer-stretch {c = c} (x .inspected .sound .drawn) (x .inside) in
+            let d = longer-drawn L P R rule s (length W) v c x (sym far ∙ f) in
+            record {
+              numbered = o .numbered;
+              above = x .above;
+              inside = x .inside;
+              long = x .inspected .sound .drawn .long;
+              more = λ t. omega (
+                arith,
+                drawn-times (x .inspected .accepting .tree) d v (x .above) (x .inside),
+                m .here,
+              );
+              less = λ t. absurd (differ refl t);
+              x = movable-on (m .x) (omega arith) (d .x .within);
+              y = movable-on (m .y) (omega arith) (d .y .within);
+            }
+
+-- once the sheet is tested
+module _ {L : Limits} {P R : List ℕ} (rule : Rule) {s : Sheet} {W : List ℕ} {X : List ℕ} {r : Validity}
+    (p : Inspecting L P R rule s W X r) (v c : ℕ) where
+  pub sheet-refused : {k z : ℕ} → r ≡ Refused k z
+      → OnSheet L P R s W s X (framed.Refused k z) (lengthen L P R rule s (length W) v c)
+  unfolding lengthen stretchFault lotFault
+  sheet-refused e = record {
+    says = sym (settle-some framed.Refused s _ _ _
+        (orElse-first _ _ (orElse-first _ _ (orElse-first _ _ (fault p e)))));
+    spared = p .spared;
+    long = p .long;
+  }
+
+  module _ (a : Validity) (t : Sheet) (did : framing a t ≡ lengthen L P R rule s (length X) v c) where
+    did-here : framing a t ≡ lengthen L P R rule s (length W) v c
+    did-here = did ∙ ap (λ n. lengthen L P R rule s n v c) (p .long)
+
+    pub edge-refused : {k z : ℕ} → a ≡ Refused k z
+        → OnSheet L P R s W t X (framed.Refused k z) (lengthen L P R rule s (length W) v c)
+    unfolding framing
+    edge-refused e = record {
+      says = ap (λ b. framing b t) (sym e) ∙ did-here;
+      spared = p .spared;
+      long = p .long;
+    }
+
+    pub edge-longer : {q : Framed} → a ≡ Accepted → q ≡ frame (t .drawing)
+        → OnSheet L P R s W t X q (lengthen L P R rule s (length W) v c)
+    unfolding framing
+    edge-longer e fr = record {
+      says = ap (λ (q : Framed). record { answer = q; left = t }) fr ∙ ap (λ b. framing b t) (sym e) ∙ did-here;
+      spared = p .spared;
+      long = p .long;
+    }
+
+------------------------------------------------------------------------
+-- Shorten
+
+module _ {L : Limits} {P R : List ℕ} (rule : Rule) {s : Sheet} {W : List ℕ} (v : ℕ) {X : List ℕ} {r : Validity}
+    (k : Unheld L P R rule s W v X r) where
+  pub free-of : r ≡ Accepted → Examined L P R rule s (length W) v
+  free-of ok = free L P R rule s (length W) v (no-fault k ok) .examined
+
+  module _ (c : ℕ) where
     abbrev back : Drawing
     back = shorter P R rule (s .drawing) v c
-
-    abbrev Lengthened : Drawing → Framed → Type 0
-    Lengthened t a = OnSheet L P R s W (sheetOf t (s .held)) X a (lengthen L P R rule s (length W) v c)
 
     abbrev Shortened : Drawing → Framed → Type 0
     Shortened t a = OnSheet L P R s W (sheetOf t (s .held)) X a (shorten L P R rule s (length W) v c)
 
-    pub lengthened-refused : {a z : ℕ} → r ≡ Refused a z → Lengthened (s .drawing) (framed.Refused a z)
-    unfolding lengthen
-    lengthened-refused e = refused _ on e
-
     pub shortened-refused : {a z : ℕ} → r ≡ Refused a z → Shortened (s .drawing) (framed.Refused a z)
     unfolding shorten
-    shortened-refused e = refused _ back e
+    shortened-refused e = record {
+      says = sym (settle-some framed.Refused s (frame back) (sheetOf back (s .held)) _ (orElse-first _ _ (fault k e)));
+      spared = k .spared;
+      long = k .long;
+    }
 
     module _ (ok : r ≡ Accepted) where
-      pub lengthened-beyond : {q : Bool} → q ≡ beyond (L .place) (length P) on → q ≡ true
-          → Lengthened (s .drawing) (framed.Refused (L .far) v)
-      unfolding lengthen
-      lengthened-beyond e t =
-          own-refused ok _ on (refuse-yes _ (L .far) v (sym e ∙ t))
+      module _ {n : ℕ} (is : n ≡ getD (s .drawing .times) v 0) where
+        pub shortened-12 : n ≤ c → Shortened (s .drawing) (framed.Refused 12 v)
+        unfolding shorten
+        shortened-12 h = record {
+          says = sym (settle-some framed.Refused s (frame back) (sheetOf back (s .held)) _
+              (orElse-second _ _ (no-fault k ok)
+              ∙ refuse-yes _ 12 v (le-leb (getD (s .drawing .times) v 0) c (omega arith))));
+          spared = k .spared;
+          long = k .long;
+        }
 
-      pub lengthened : {q : Bool} {t : Drawing} {a : Framed} → q ≡ beyond (L .place) (length P) on
-          → q ≡ false → t ≡ on → a ≡ frame t → Lengthened t a
-      unfolding lengthen
-      lengthened e f = renewed ok _ on (refuse-no _ (L .far) v (sym e ∙ f))
-
-      pub shortened-12 : {n : ℕ} → n ≡ getD (s .drawing .times) v 0 → n ≤ c
-          → Shortened (s .drawing) (framed.Refused 12 v)
-      unfolding shorten
-      shortened-12 e h =
-          own-refused ok _ back
-          (refuse-yes _ 12 v (le-leb (getD (s .drawing .times) v 0) c (omega arith)))
-
-      pub shortened : {n : ℕ} {t : Drawing} {a : Framed} → n ≡ getD (s .drawing .times) v 0 → c < n
-          → t ≡ back → a ≡ frame t → Shortened t a
-      unfolding shorten
-      shortened e h =
-          renewed ok _ back
-          (refuse-no _ 12 v (lt-leb (getD (s .drawing .times) v 0) c (omega arith)))
-
-      -- the new drawing is one, within the limits
-      pub new-longer : {q : Bool} → q ≡ beyond (L .place) (length P) on → q ≡ false → Drawn (L .place) P R rule on
-      new-longer e f = longer-drawn L P R rule s (length W) v c (examined-of ok) (sym e ∙ f)
-
-      pub new-shorter : {n : ℕ} → n ≡ getD (s .drawing .times) v 0 → c < n → Drawn (L .place) P R rule back
-      new-shorter e h = shorter-drawn L P R rule s (length W) v c (examined-of ok) (omega arith)
-
-      -- within the limit, the longer drawing has times and places that fit
-      pub can-lengthen : {q : Bool} → FramesFit L → q ≡ beyond (L .place) (length P) on
-          → q ≡ false → Stretchable P R rule (s .drawing) X v c true
-      unfolding stretched
-      can-lengthen low e f =
-          let x = examined-of ok in
-          let m = longer-stretch {c = c} (x .inspected .sound .drawn) (x .inside) in
-          let d = new-longer e f in
-          record {
-            numbered = k .left ok .sized .numbered;
-            above = x .above;
-            inside = x .inside;
-            long = x .inspected .sound .drawn .long;
-            more = λ t. omega (arith, drawn-times (x .inspected .accepting .tree) d v (x .above) (x .inside), m .here);
-            less = λ t. absurd (differ refl t);
-            x = movable-on (m .x) (omega arith) (d .x .within);
-            y = movable-on (m .y) (omega arith) (d .y .within);
+        module _ (h : c < n) where
+          pub shortened : {t : Drawing} {a : Framed} → t ≡ back → a ≡ frame t → Shortened t a
+          unfolding shorten
+          shortened {t} new fr = record {
+            says = ap (λ (a : Framed). record { answer = a; left = sheetOf t (s .held) }) fr
+                ∙ ap (λ (u : Drawing). record { answer = frame u; left = sheetOf u (s .held) }) new
+                ∙ sym (settle-none framed.Refused s (frame back) (sheetOf back (s .held)) _
+                (orElse-second _ _ (no-fault k ok)
+                ∙ refuse-no _ 12 v (lt-leb (getD (s .drawing .times) v 0) c (omega arith))));
+            spared = k .spared;
+            long = k .long;
           }
 
-      pub can-shorten : {n : ℕ} → n ≡ getD (s .drawing .times) v 0 → c < n
-          → Stretchable P R rule (s .drawing) X v c false
-      can-shorten e h =
-          let x = examined-of ok in
-          let less : c ≤ getD (s .drawing .times) v 0 = omega arith in
-          record {
-            numbered = k .left ok .sized .numbered;
-            above = x .above;
-            inside = x .inside;
-            long = x .inspected .sound .drawn .long;
-            more = λ t. absurd (differ t refl);
-            less = λ t. less;
-            x = movable-back (x .inspected .sound .drawn .x .long)
-                (back-room (x .inspected .accepting .tree) (x .above) (x .inside) (x .inspected .sound .drawn .x) less);
-            y = movable-back (x .inspected .sound .drawn .y .long)
-                (back-room (x .inspected .accepting .tree) (x .above) (x .inside) (x .inspected .sound .drawn .y) less);
-          }
+          -- the new drawing is one, within the limits
+          pub new-shorter : Drawn (L .place) P R rule back
+          new-shorter = shorter-drawn L P R rule s (length W) v c (free-of ok) (omega arith)
+
+          pub can-shorten : Stretchable P R rule (s .drawing) X v c false
+          can-shorten =
+              let x = free-of ok in
+              let less : c ≤ getD (s .drawing .times) v 0 = omega arith in
+              record {
+                numbered = k .left ok .sized .numbered;
+                above = x .above;
+                inside = x .inside;
+                long = x .inspected .sound .drawn .long;
+                more = λ t. absurd (differ t refl);
+                less = λ t. less;
+                x = movable-back (x .inspected .sound .drawn .x .long)
+                    (back-room (x .inspected .accepting .tree) (x .above) (x .inside) (x .inspected .sound .drawn .x)
+                    less);
+                y = movable-back (x .inspected .sound .drawn .y .long)
+                    (back-room (x .inspected .accepting .tree) (x .above) (x .inside) (x .inspected .sound .drawn .y)
+                    less);
+              }
 
 -- at limits that are the same
 module _ {L M : Limits} (P R : List ℕ) (rule : Rule) (s : Sheet) (W : List ℕ) (v c : ℕ) {t : Sheet} {X : List ℕ}

@@ -6,12 +6,13 @@
 --   Stretching L .. v c s t o   == the outcome o of a call is its frame, and of s and t, the shorter and the longer
 --                                  drawing, one was given and the other is left; v's edge is free, and held as it was
 --   lengthen-does, shorten-does == lengthen and shorten refuse or stretch
+--   lengthen-sound              == what lengthen leaves of a sheet is one
 --   lengthen-accepted, ..       == what an accepted one was given, and what it left
 --   shorten-undoes              == shorten undoes lengthen
 --   lengthen-0, shorten-0       == of a free edge count 0 changes nothing and is no ground for a refusal
 use mathlib.Core.Bool.{Bool, true, false, _||_}
 use mathlib.Core.List.{List}
-use mathlib.Core.Logic.{_⊎_, inl, inr}
+use mathlib.Core.Logic.{_⊎_, inl, inr, ⊎-elim}
 use mathlib.Core.Option.{Option, none, some}
 use mathlib.Core.Path.{_≡_, refl, ap, ap₂, subst, subst⁻¹, _∙_}
 use Prim.Native.Nat.{ℕ, _≤_, _<_}
@@ -44,19 +45,22 @@ pub record Examined (L : Limits) (P R : List ℕ) (rule : Rule) (s : Sheet) (wor
   pub above : 0 < v
   pub inside : v < length P
 
+-- 9 and 10 by themselves
+pub edge-none : (n v : ℕ) → edgeFault n v ≡ none → (0 < v) × (v < n)
+unfolding edgeFault
+edge-none n v e =
+    let a = orElse-none (refuse (leb n v) 9 0) _ e in
+    let ne : v ≡ 0 → ⊥ = eqb-false v 0 (refuse-none _ 10 0 (a .1)) in
+    (omega arith, leb-false n v (refuse-none _ 9 0 (a .0)))
+
 pub examined : (L : Limits) (P R : List ℕ) (rule : Rule) (s : Sheet) (work v : ℕ)
     → lotFault L P R rule s work v ≡ none
     → Examined L P R rule s work v
-unfolding lotFault edgeFault
+unfolding lotFault
 examined L P R rule s work v e =
     let a = orElse-none (sheetFault L P R rule s work) _ e in
-    let b = orElse-none (refuse (leb (length P) v) 9 0) _ (a .1) in
-    let ne : v ≡ 0 → ⊥ = eqb-false v 0 (refuse-none _ 10 0 (b .1)) in
-    record {
-      inspected = inspected L P R rule s work (a .0);
-      above = omega arith;
-      inside = leb-false (length P) v (refuse-none _ 9 0 (b .0));
-    }
+    let edge = edge-none (length P) v (a .1) in
+    record { inspected = inspected L P R rule s work (a .0); above = edge .0; inside = edge .1 }
 
 -- another sheet passes too
 pub examined-again : {L : Limits} {P R : List ℕ} {rule : Rule} {s : Sheet} {work v : ℕ} → Examined L P R rule s work v
@@ -238,6 +242,14 @@ module _ (L : Limits) (P R : List ℕ) (rule : Rule) (s : Sheet) (work v c : ℕ
                 (x .inspected .sound .drawn)
                 (omega arith);
           })
+
+pub lengthen-sound : (L : Limits) (P R : List ℕ) (rule : Rule) (s : Sheet) (work v c : ℕ)
+    → Sound (L .place) P R rule s → Sound (L .place) P R rule (lengthen L P R rule s work v c .left)
+lengthen-sound L P R rule s work v c a =
+    ⊎-elim (λ (u : Untouched s (lengthen L P R rule s work v c)). subst⁻¹ (Sound (L .place) P R rule) (u .left) a)
+    (λ (m : Stretching L P R rule v c (s .held) (s .drawing) (lengthen L P R rule s work v c .left .drawing)
+    (lengthen L P R rule s work v c)). m .sound)
+    (lengthen-does L P R rule s work v c)
 
 -- shorten gives back the sheet that lengthen was given
 undone : (L : Limits) (P R : List ℕ) (rule : Rule) (s : Sheet) (work v c : ℕ) → Free L P R rule s work v

@@ -20,16 +20,18 @@ ghost use mathlib.Core.Path.{_≡_};
 ghost use Prim.Native.Nat.{_+_, _*_, _^_, _≤_, _<_, min};
 ghost use lib.ListN.{length};
 ghost use Rattle.laws.specs.Search.{least};
+ghost use Rattle.table.specs.Acceptance.{validity};
 ghost use Rattle.table.specs.Numbering.{NumberedTree};
 ghost use Rattle.table.specs.Table.{large};
 ghost use Rattle.slopes.specs.Slopes.{edge};
-ghost use Rattle.drawing.specs.Drawing.{lent, nodeFits, drawing, sheet, Does};
+ghost use Rattle.drawing.specs.Drawing.{lent, sheetOf, nodeFits, drawing, sheet, Does};
 ghost use Rattle.drawing.specs.DrawingLaws.{Drawn};
 ghost use Rattle.drawing.specs.Parts.{FramesFit, Sized};
-ghost use Rattle.stretching.specs.Stretching.{moved, stretched, beyond, lengthen, shorten};
+ghost use Rattle.stretching.specs.Stretching.{moved, stretched, beyond, edgeFault, lengthen, shorten};
 ghost use Rattle.stretching.specs.StretchLaws.{longer};
 ghost use Rattle.stretching.specs.Parts.{by, placedFrom, rootFits, misfit, AllFit, misheld, Inspecting};
-ghost use Rattle.stretching.specs.Parts.{Examining, Unheld, Passes, Movable, Stretchable};
+ghost use Rattle.stretching.specs.Parts.{freeFault, Examining, Unheld, Passes, Movable, Stretchable, Opened};
+ghost use Rattle.stretching.specs.Parts.{framing};
 
 // Whether v is at its parent's place p and `step` more, and within the limit.
 fn placed(limit: usize, places: &[u32], p: usize, v: usize, step: usize) -> bool
@@ -253,6 +255,35 @@ pub fn inspect(
     }
 }
 
+// Refusals 9 and 10, of n nodes: whether `lot` has an edge.
+fn test_edge(n: usize, lot: u32) -> Validity
+    ensures { λ r. ⌜ r ≡ validity (edgeFault n lot) ⌝ }
+{
+    if n <= lot as usize {
+        return Validity::Refused(9, 0);
+    }
+    if lot == 0 {
+        return Validity::Refused(10, 0);
+    }
+    Validity::Accepted
+}
+
+// Refusals 9, 10 and 22: whether `lot` has an edge that is not held.
+fn test_free(held: &[u32], lot: u32) -> Validity
+    ensures { λ r. ⌜ r ≡ validity (freeFault (now (held .entry)) lot) ⌝ }
+{
+    let edge = test_edge(held.len(), lot);
+    match edge {
+        Validity::Refused(k, v) => Validity::Refused(k, v),
+        Validity::Accepted => {
+            if get(held, lot as usize) == 1 {
+                return Validity::Refused(22, lot);
+            }
+            Validity::Accepted
+        }
+    }
+}
+
 // Refusals 1 to 10 of a call on the edge of `lot`; an accepted table is numbered.
 pub fn examine(
     limits: Limits,
@@ -269,19 +300,10 @@ pub fn examine(
     ensures { λ r. ⌜ Examining limits (now (parent .entry)) (now (rank .entry)) rule
         (sheet times x y held .entry) (now (work .entry)) lot (now (work .exit)) r ⌝ }
 {
-    let n = parent.len();
     let valid = inspect(limits, rule, parent, rank, times, x, y, held, work);
     match valid {
         Validity::Refused(k, v) => Validity::Refused(k, v),
-        Validity::Accepted => {
-            if n <= lot as usize {
-                return Validity::Refused(9, 0);
-            }
-            if lot == 0 {
-                return Validity::Refused(10, 0);
-            }
-            Validity::Accepted
-        }
+        Validity::Accepted => test_edge(parent.len(), lot),
     }
 }
 
@@ -301,15 +323,10 @@ fn examine_free(
     ensures { λ r. ⌜ Unheld limits (now (parent .entry)) (now (rank .entry)) rule
         (sheet times x y held .entry) (now (work .entry)) lot (now (work .exit)) r ⌝ }
 {
-    let valid = examine(limits, rule, parent, rank, times, x, y, held, work, lot);
+    let valid = inspect(limits, rule, parent, rank, times, x, y, held, work);
     match valid {
         Validity::Refused(k, v) => Validity::Refused(k, v),
-        Validity::Accepted => {
-            if get(held, lot as usize) == 1 {
-                return Validity::Refused(22, lot);
-            }
-            Validity::Accepted
-        }
+        Validity::Accepted => test_free(held, lot),
     }
 }
 
@@ -419,6 +436,42 @@ fn stretch(
     put(times, v, changed(t, c, longer));
 }
 
+// Lengthen on a sheet that is accepted, and whose table is numbered: all but the frame.
+pub fn lengthen_edge(
+    limits: Limits,
+    rule: Rule,
+    parent: &[u32],
+    rank: &[u32],
+    times: &mut [u32],
+    x: &mut [u32],
+    y: &mut [u32],
+    held: &[u32],
+    work: &[u32],
+    lot: u32,
+    count: u32,
+) -> Validity
+    requires { ⌜ FramesFit limits × Opened limits (now parent) (now rank) rule
+        (sheetOf (lent (now times) (now x) (now y)) (now held)) (now work) ⌝ }
+    ensures { λ r. ⌜ framing r (sheet times x y held .exit)
+        ≡ lengthen limits (now (parent .entry)) (now (rank .entry)) rule (sheet times x y held .entry)
+        (length (now (work .entry))) lot count ⌝ }
+{
+    let place = limits.place as usize;
+    let free = test_free(held, lot);
+    match free {
+        Validity::Refused(k, v) => Validity::Refused(k, v),
+        Validity::Accepted => {
+            let v = lot as usize;
+            let far = too_far(place, rule, parent, rank, times, x, y, work, v, count);
+            if far {
+                return Validity::Refused(limits.far, lot);
+            }
+            stretch(rule, parent, rank, times, x, y, work, v, count, true);
+            Validity::Accepted
+        }
+    }
+}
+
 // Lengthen at any limits whose frames are numbers of 32 bits.
 pub fn lengthen_within(
     limits: Limits,
@@ -437,18 +490,27 @@ pub fn lengthen_within(
     ensures { λ r. ⌜ Does limits parent rank (sheet times x y held) work
         (λ P R s m. lengthen limits P R rule s m lot count) r ⌝ }
 {
-    let place = limits.place as usize;
-    let verdict = examine_free(limits, rule, parent, rank, times, x, y, held, work, lot);
-    match verdict {
+    let valid = inspect(limits, rule, parent, rank, times, x, y, held, work);
+    match valid {
         Validity::Refused(k, v) => Framed::Refused(k, v),
         Validity::Accepted => {
-            let v = lot as usize;
-            let far = too_far(place, rule, parent, rank, times, x, y, work, v, count);
-            if far {
-                return Framed::Refused(limits.far, lot);
+            let verdict = lengthen_edge(
+                limits,
+                rule,
+                parent,
+                rank,
+                times,
+                x,
+                y,
+                held,
+                work,
+                lot,
+                count,
+            );
+            match verdict {
+                Validity::Refused(k, v) => Framed::Refused(k, v),
+                Validity::Accepted => frame_of(x, y),
             }
-            stretch(rule, parent, rank, times, x, y, work, v, count, true);
-            frame_of(x, y)
         }
     }
 }

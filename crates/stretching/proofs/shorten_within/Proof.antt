@@ -2,7 +2,7 @@
 use native.Mathlib.Omega.{arith}
 use borrow.Author.Needs.{needs}
 use Rattle.drawing.specs.Parts.{framable}
-use Rattle.stretching.proofs.Outcomes.{examined-of, shortened-refused, shortened-12, can-shorten}
+use Rattle.stretching.proofs.Outcomes.{free-of, shortened-refused, shortened-12, can-shorten}
 use Rattle.stretching.proofs.Outcomes.{new-shorter, shortened}
 use Rattle.stretching.proofs.shorten_within.Statement.{statement}
 use Rattle.stretching.proofs.shorten_within.Tie as tie
@@ -22,7 +22,7 @@ tested c = c .before .before .before .before .before
 get-requires : tie.Need-get-requires
 get-requires c κs =
     let accepted = c .before in
-    let x = examined-of _ _ (examined accepted .examine-free .ensures) (accepted .enum-told .given .1) in
+    let x = free-of _ _ (examined accepted .examine-free .ensures) (accepted .enum-told .given .1) in
     let inside = x .inside in
     let long = x .inspected .sound .drawn .long in
     omega arith
