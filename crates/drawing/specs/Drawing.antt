@@ -14,6 +14,7 @@
 --   freshSheet P R rule       == its sheet with no edge held
 --   largest l                 == the largest of a list, 0 of an empty one
 --   frame s                   == the largest x plus 1 and the largest y plus 1: the grid cells across and up
+--   accepted a                == the answer a is a frame
 --   placed limit .. v         == a coordinate of v is right against its parent's, and within the limit
 --   nodeFits limit .. v       == times and place of v are right against its parent's place, and within the limit
 --   heldFits held v           == v's entry of held is 0 or 1, and that of the root, which has no edge, 0
@@ -25,7 +26,7 @@
 --   drawing times x y         == the drawing in three lent lists, at entry and at exit
 --   sheet times x y held      == the sheet in four
 --   Does L .. call r          == that contract of lent lists, for a call whose definition is `call`
-use mathlib.Core.Bool.{Bool, cond, not, _&&_}
+use mathlib.Core.Bool.{Bool, true, false, cond, not, _&&_}
 use mathlib.Core.List.{List, [], _∷_}
 use mathlib.Core.Option.{Option}
 use mathlib.Core.Path.{_≡_}
@@ -88,6 +89,10 @@ largest (a ∷ l) = max a (largest l)
 
 unfoldable pub frame : Drawing → Framed
 frame s = Frame (largest (s .x) + 1) (largest (s .y) + 1)
+
+unfoldable pub accepted : Framed → Bool
+accepted (Frame width height) = true
+accepted (Refused number lot) = false
 
 ------------------------------------------------------------------------
 -- 8: not a sheet of the table under the rule

@@ -1,0 +1,3 @@
+pub mod Arranging
+pub mod EachLaws
+pub mod Parts
