@@ -1,3 +1,3 @@
-pub mod Threes
+pub mod Replies
 pub mod Exporting
 pub mod Replaying

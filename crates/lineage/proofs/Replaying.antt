@@ -13,10 +13,10 @@ use Rattle.table.specs.declared.Limits.{Limits}
 use Rattle.slopes.specs.declared.Rule.{Rule}
 use Rattle.drawing.specs.declared.Framed.{Framed}
 use Rattle.drawing.specs.declared.Framed.the-variants.{Frame, Refused}
-use Rattle.drawing.specs.Drawing.{Sheet, layout}
+use Rattle.drawing.specs.Drawing.{Sheet, accepted, layout}
 use Rattle.stretching.specs.Stretching.{lengthen, shorten}
 use Rattle.holding.specs.Holding.{hold}
-use Rattle.lineage.specs.Claim.{Call, Lengthen, Shorten, Hold, accepted, make, run}
+use Rattle.lineage.specs.Claim.{Lengthen, Shorten, Hold, Call, make, run}
 use Rattle.lineage.specs.Replay.{callOf, callsTo, after, run-last, Replayed}
 
 module _ (L : Limits) (P R : List ℕ) (rule : Rule) (s : Sheet) (work v c : ℕ) where

@@ -2,12 +2,14 @@
 -- theirs, and of its drawing all the rest follows.
 --
 --   LimitsFit L   == fresh drawings fit the limits L, which are within those of direction and of the check
+--   play .. s cs  == the sheet after a list of single calls
+--   tried-leaves  == a call leaves what the single calls that it tries leave
 --   run-append    == a list of calls after another
 --   demand-3      == the claim at the large limits
 use mathlib.Core.Bool.{Bool, true, false, cond}
-use mathlib.Core.List.{List, [], _∷_, _++_}
+use mathlib.Core.List.{List, [], _∷_, _++_, zipWith}
 use mathlib.Core.Logic.{⊎-elim, _↔_}
-use mathlib.Core.Option.{none, some}
+use mathlib.Core.Option.{Option, none, some}
 use mathlib.Core.Path.{_≡_, refl, sym, ap, subst⁻¹, _∙_}
 use Prim.Native.Nat.{ℕ, _+_, _*_, _≤_, _<_}
 use native.Mathlib.Nat.{mul-comm}
@@ -18,7 +20,7 @@ use lib.ListN.{length, getD}
 use borrow.Author.Tests.{eq-eqb, ne-eqb, le-ltb}
 use Rattle.laws.specs.Refusals.{orElse-second, orElse-none, refuseLeast-no}
 use Rattle.laws.specs.SearchLaws.{least-is}
-use Rattle.laws.specs.Search.{Outcome}
+use Rattle.laws.specs.Search.{Refusal, refusedOr, Outcome, settle}
 use Rattle.laws.specs.Tests.{by-eq, differ, neither-is}
 use Rattle.table.specs.Acceptance.{shape-fits, accepting}
 use Rattle.table.specs.declared.Limits.{Limits}
@@ -31,7 +33,7 @@ use Rattle.slopes.specs.Slopes.{acrossOf, upOf, edge}
 use Rattle.drawing.specs.CallLaws.{settled, layout-sound}
 use Rattle.drawing.specs.declared.Framed.{Framed}
 use Rattle.drawing.specs.declared.Framed.the-variants.{Frame}
-use Rattle.drawing.specs.Drawing.{Drawing, Sheet, lengthsFit, frame, pathSum, fresh, freshSheet, layout}
+use Rattle.drawing.specs.Drawing.{Drawing, Sheet, lengthsFit, frame, accepted, pathSum, fresh, freshSheet, layout}
 use Rattle.drawing.specs.DrawingLaws.{Coordinate, stepOf}
 use Rattle.drawing.specs.FreshLaws.{Roomy, large-roomy, fresh-once}
 use Rattle.drawing.specs.PathLaws.{adds-path, path-cong}
@@ -41,6 +43,9 @@ use Rattle.stretching.specs.Stretching.{isHeld, lengthen, shorten}
 use Rattle.stretching.specs.StretchLaws.{Stretch}
 use Rattle.holding.specs.Holding.{entry, hold}
 use Rattle.holding.specs.HoldLaws.{Marking, hold-does, held-here, held-others}
+use Rattle.arranging.specs.Arranging.{eachFault, inTurn, lengthenEach}
+use Rattle.arranging.specs.declared.Arranged.{Arranged}
+use Rattle.arranging.specs.declared.Arranged.the-variants.{Refused}
 use Rattle.direction.specs.declared.Heading.the-variants.{Along}
 use Rattle.direction.specs.Direction.{direction}
 use Rattle.direction.specs.DirectionLaws.{direction-rises, edges-apart}
@@ -48,8 +53,9 @@ use Rattle.monotone.specs.declared.Verdict.{Verdict}
 use Rattle.monotone.specs.declared.Verdict.the-variants.{Monotone}
 use Rattle.monotone.specs.Monotone.{HasDirection, placeBeyond, checkFault, Says}
 use Rattle.monotone.specs.MonotoneLaws.{says-one}
-use Rattle.lineage.specs.Claim.{Call, Lengthen, Shorten, Hold, accepted, adds, takes, frees, make, run, total}
-use Rattle.lineage.specs.Claim.{added, taken, freed, lengthOf, Assured, Claim}
+use Rattle.lineage.specs.Claim.{Single, Lengthen, Shorten, Hold, Call, One, LengthenEach, adds, takes, frees}
+use Rattle.lineage.specs.Claim.{make, leaves, untilRefused, tried, run, singles, total, added, taken, freed}
+use Rattle.lineage.specs.Claim.{lengthOf, Assured, Claim}
 
 pub record LimitsFit (L : Limits) : Type 0 where
   pub roomy : Roomy L
@@ -86,14 +92,14 @@ not-freed false v z e f = absurd (omega (arith, sym (counts-here v z 1 e) ∙ f)
 
 module _ (L : Limits) (P R : List ℕ) (rule : Rule) where
   -- what a call counts for z: its count if it is accepted
-  share : (Call → ℕ → ℕ) → Sheet → Call → ℕ → ℕ
+  share : (Single → ℕ → ℕ) → Sheet → Single → ℕ → ℕ
   share what s c z = cond (accepted (make L P R rule s c .answer)) (what c z) 0
 
   -- z is held, and keeps its times
   abbrev pub Keeps : Sheet → Sheet → ℕ → Type 0
   Keeps s t z = (isHeld t z ≡ true) × (getD (t .drawing .times) z 0 ≡ getD (s .drawing .times) z 0)
 
-  record Step (s : Sheet) (c : Call) : Type 0 where
+  record Step (s : Sheet) (c : Single) : Type 0 where
     pub sound : Sound (L .place) P R rule (make L P R rule s c .left)
     pub times : (z : ℕ) → z < length P
         → getD (make L P R rule s c .left .drawing .times) z 0 + share takes s c z
@@ -101,17 +107,17 @@ module _ (L : Limits) (P R : List ℕ) (rule : Rule) where
     pub keeps : (z : ℕ) → z < length P → isHeld s z ≡ true → share frees s c z ≡ 0
         → Keeps s (make L P R rule s c .left) z
 
-  refused-share : (what : Call → ℕ → ℕ) (s : Sheet) (c : Call) (z : ℕ) → Untouched s (make L P R rule s c)
+  refused-share : (what : Single → ℕ → ℕ) (s : Sheet) (c : Single) (z : ℕ) → Untouched s (make L P R rule s c)
       → share what s c z ≡ 0
   unfolding share accepted
   refused-share what s c z u = rw (u .answer) refl
 
-  accepted-share : (what : Call → ℕ → ℕ) (s : Sheet) (c : Call) (z : ℕ)
+  accepted-share : (what : Single → ℕ → ℕ) (s : Sheet) (c : Single) (z : ℕ)
       → make L P R rule s c .answer ≡ frame (make L P R rule s c .left .drawing) → share what s c z ≡ what c z
   unfolding share accepted frame
   accepted-share what s c z e = rw e refl
 
-  untouched-step : (s : Sheet) (c : Call) → Sound (L .place) P R rule s → Untouched s (make L P R rule s c) → Step s c
+  untouched-step : (s : Sheet) (c : Single) → Sound (L .place) P R rule s → Untouched s (make L P R rule s c) → Step s c
   untouched-step s c d u = record {
     sound = subst⁻¹ (Sound (L .place) P R rule) (u .left) d;
     times = λ z l. omega (
@@ -133,7 +139,7 @@ module _ (L : Limits) (P R : List ℕ) (rule : Rule) where
     others z l (λ e. differ (ap (λ (w : ℕ). isHeld s w) (sym e) ∙ h) (m .free)),
   )
 
-  step : (s : Sheet) (c : Call) → Sound (L .place) P R rule s → Step s c
+  step : (s : Sheet) (c : Single) → Sound (L .place) P R rule s → Step s c
   unfolding make adds takes frees
   step s (Lengthen v k work) d =
       ⊎-elim (untouched-step s (Lengthen v k work) d)
@@ -185,22 +191,26 @@ module _ (L : Limits) (P R : List ℕ) (rule : Rule) where
       (hold-does L P R rule s work v on)
 
   ------------------------------------------------------------------------
-  -- A list of calls
+  -- A list of single calls
 
-  pub record Ran (s : Sheet) (calls : List Call) : Type 0 where
-    pub sound : Sound (L .place) P R rule (run L P R rule s calls)
+  unfoldable pub play : Sheet → List Single → Sheet
+  play s [] = s
+  play s (c ∷ cs) = play (make L P R rule s c .left) cs
+
+  -- what a list that leaves t counts, and keeps
+  pub record Ran (s : Sheet) (cs : List Single) (t : Sheet) : Type 0 where
+    pub sound : Sound (L .place) P R rule t
     pub times : (z : ℕ) → z < length P
-        → getD (run L P R rule s calls .drawing .times) z 0 + taken L P R rule s calls z
-        ≡ getD (s .drawing .times) z 0 + added L P R rule s calls z
-    pub keeps : (z : ℕ) → z < length P → isHeld s z ≡ true → freed L P R rule s calls z ≡ 0
-        → Keeps s (run L P R rule s calls) z
+        → getD (t .drawing .times) z 0 + total L P R rule takes s cs z
+        ≡ getD (s .drawing .times) z 0 + total L P R rule adds s cs z
+    pub keeps : (z : ℕ) → z < length P → isHeld s z ≡ true → total L P R rule frees s cs z ≡ 0 → Keeps s t z
 
-  pub ran : (s : Sheet) (calls : List Call) → Sound (L .place) P R rule s → Ran s calls
-  unfolding run total added taken freed share
-  ran s [] d = record { sound = d; times = λ z l. refl; keeps = λ z l h f. (h, refl) }
-  ran s (c ∷ cs) d =
+  played : (s : Sheet) (cs : List Single) → Sound (L .place) P R rule s → Ran s cs (play s cs)
+  unfolding play total share
+  played s [] d = record { sound = d; times = λ z l. refl; keeps = λ z l h f. (h, refl) }
+  played s (c ∷ cs) d =
       let one = step s c d in
-      let rest = ran (make L P R rule s c .left) cs (one .sound) in
+      let rest = played (make L P R rule s c .left) cs (one .sound) in
       record {
         sound = rest .sound;
         times = λ z l. omega (arith, one .times z l, rest .times z l);
@@ -210,11 +220,65 @@ module _ (L : Limits) (P R : List ℕ) (rule : Rule) where
             (then .0, then .1 ∙ now .1);
       }
 
+  play-append : (s : Sheet) (first rest : List Single) → play s (first ++ rest) ≡ play (play s first) rest
+  unfolding play
+  play-append s [] rest = refl
+  play-append s (c ∷ cs) rest = play-append (make L P R rule s c .left) cs rest
+
+  ------------------------------------------------------------------------
+  -- A list of calls
+
+  -- what an accepted lengthen leaves goes on, and what a refused one leaves stays
+  goes-on : (ok : Bool) (o : Outcome Arranged Sheet) (a : Arranged) (t : Sheet) (rest : List Single)
+      → o .left ≡ play t rest → cond ok o (record { answer = a; left = t }) .left ≡ play t (cond ok rest [])
+  unfolding play
+  goes-on true o a t rest e = e
+  goes-on false o a t rest e = refl
+
+  turns-leave : (s : Sheet) (place work : ℕ) (lots counts : List ℕ)
+      → inTurn L P R rule work s place lots counts .left
+      ≡ play s (untilRefused L P R rule s (zipWith (λ v c. Lengthen v c work) lots counts))
+  unfolding inTurn untilRefused zipWith make play
+  turns-leave s place work [] counts = refl
+  turns-leave s place work (v ∷ lots) [] = refl
+  turns-leave s place work (v ∷ lots) (c ∷ counts) =
+      let o = lengthen L P R rule s work v c in
+      goes-on (accepted (o .answer)) _ _ (o .left) _ (turns-leave (o .left) (place + 1) work lots counts)
+
+  pub tried-leaves : (s : Sheet) (c : Call) → leaves L P R rule s c ≡ play s (tried L P R rule s c)
+  unfolding leaves tried play lengthenEach
+  tried-leaves s (One c) = refl
+  tried-leaves s (LengthenEach lots counts work) = go (eachFault L P R rule s work lots counts)
+    where
+      o : Outcome Arranged Sheet
+      o = inTurn L P R rule work s 1 lots counts
+
+      all : List Single
+      all = zipWith (λ v c. Lengthen v c work) lots counts
+
+      go : (f : Option Refusal) → settle (λ n v. Refused n v 0) f s (o .answer) (o .left) .left
+          ≡ play s (refusedOr (λ n v. []) f (untilRefused L P R rule s all))
+      go none = turns-leave s 1 work lots counts
+      go (some r) = refl
+
+  run-plays : (s : Sheet) (calls : List Call) → run L P R rule s calls ≡ play s (singles L P R rule s calls)
+  unfolding run singles play
+  run-plays s [] = refl
+  run-plays s (c ∷ cs) =
+      run-plays (leaves L P R rule s c) cs
+      ∙ ap (λ (t : Sheet). play t (singles L P R rule (leaves L P R rule s c) cs)) (tried-leaves s c)
+      ∙ sym (play-append s (tried L P R rule s c) (singles L P R rule (leaves L P R rule s c) cs))
+
+  pub ran : (s : Sheet) (calls : List Call) → Sound (L .place) P R rule s
+      → Ran s (singles L P R rule s calls) (run L P R rule s calls)
+  ran s calls d =
+      subst⁻¹ (Ran s (singles L P R rule s calls)) (run-plays s calls) (played s (singles L P R rule s calls) d)
+
   pub run-append : (s : Sheet) (first rest : List Call)
       → run L P R rule s (first ++ rest) ≡ run L P R rule (run L P R rule s first) rest
   unfolding run
   run-append s [] rest = refl
-  run-append s (c ∷ cs) rest = run-append (make L P R rule s c .left) cs rest
+  run-append s (c ∷ cs) rest = run-append (leaves L P R rule s c) cs rest
 
 ------------------------------------------------------------------------
 -- The claim
@@ -242,14 +306,14 @@ module _ (L : Limits) (fit : LimitsFit L) (P R : List ℕ) (rule : Rule) (long :
   t : Drawing
   t = run L P R rule s calls .drawing
 
-  r : Ran L P R rule s calls
+  r : Ran L P R rule s (singles L P R rule s calls) (run L P R rule s calls)
   r = ran L P R rule s calls sound
 
   few : length P ≤ L .nodes
   few = accepting L P R long work fine .shape .few
 
   times-are : (z : ℕ) → z < length P → getD (t .times) z 0 + taken L P R rule s calls z ≡ 1 + added L P R rule s calls z
-  unfolding t
+  unfolding t added taken
   times-are z l = omega (arith, r .times z l, once z l)
 
   long-as : (z : ℕ) → z < length P → getD (t .times) z 0 ≡ lengthOf L P R rule s calls z
@@ -318,6 +382,7 @@ module _ (L : Limits) (fit : LimitsFit L) (P R : List ℕ) (rule : Rule) (long :
   kept : (first rest : List Call) → calls ≡ first ++ rest → (v : ℕ) → v < length P
       → isHeld (run L P R rule s first) v ≡ true → freed L P R rule (run L P R rule s first) rest v ≡ 0
       → getD (run L P R rule s calls .drawing .times) v 0 ≡ getD (run L P R rule s first .drawing .times) v 0
+  unfolding freed
   kept first rest e v l h f =
       ap (λ (u : Sheet). getD (u .drawing .times) v 0) (ap (run L P R rule s) e ∙ run-append L P R rule s first rest)
       ∙ ran L P R rule (run L P R rule s first) rest (ran L P R rule s first sound .sound) .keeps v l h f .1

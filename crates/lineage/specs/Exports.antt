@@ -1,15 +1,17 @@
--- The C interface: what its calls write into a reply of three numbers, for each answer.
+-- The C interface: what its calls write into a reply of three numbers, or of four, for each answer.
 --
--- A call of the interface makes the call of the same name and writes the answer into the reply; where the reply is not
--- three long it does nothing at all.
+-- A call of the interface makes the call of the same name and writes the answer into the reply; where the reply is of
+-- another length it does nothing at all.
 --
---   ruleOf balanced          == the rule that a bool stands for
---   countedReply a, ..       == the three numbers of an answer: 0, number, node where it refuses
---   Short a                  == the number of bytes that the writer answers fits 32 bits
---   Unchanged s work         == what lent lists hold, and the work list, are as they were
---   Answered C reply q       == q is the reply of an answer that keeps the contract C
---   Exported C reply K q s b == b says whether the reply q at entry is three long: then s at exit is the reply of an
---                               answer that keeps C; otherwise the reply is as it was, and K holds: so is all else
+--   ruleOf balanced            == the rule that a bool stands for
+--   countedReply a, ..         == the three numbers of an answer: 0, number, node where it refuses
+--   arrangedReply a            == the four numbers of the answer to a list of lengthens
+--   Short a                    == the number of bytes that the writer answers fits 32 bits
+--   Near a                     == the place that a list of lengthens answers fits 63 bits
+--   Unchanged s work           == what lent lists hold, and the work list, are as they were
+--   Answered C reply q         == q is the reply of an answer that keeps the contract C
+--   Exported n C reply K q s b == b says whether the reply q at entry is n long: then s at exit is the reply of an
+--                                 answer that keeps C; otherwise the reply is as it was, and K holds: so is all else
 use mathlib.Core.Bool.{Bool, true, false}
 use mathlib.Core.List.{List, [], _∷_}
 use mathlib.Core.Path.{_≡_}
@@ -25,6 +27,8 @@ use Rattle.slopes.specs.declared.Rule.the-variants.{Steep, Balanced}
 use Rattle.drawing.specs.declared.Framed.{Framed}
 use Rattle.drawing.specs.declared.Framed.the-variants as framed
 use Rattle.drawing.specs.Drawing.{Lent}
+use Rattle.arranging.specs.declared.Arranged.{Arranged}
+use Rattle.arranging.specs.declared.Arranged.the-variants as arranged
 use Rattle.direction.specs.declared.Heading.{Heading}
 use Rattle.direction.specs.declared.Heading.the-variants as heading
 use Rattle.monotone.specs.declared.Verdict.{Verdict}
@@ -66,9 +70,20 @@ unfoldable pub savedReply : Saved → List ℤ
 savedReply (saved.Bytes bytes) = three (pos 1) (pos bytes) (pos 0)
 savedReply (saved.Unsaved number node) = refusedReply number node
 
+abbrev pub four : ℤ → ℤ → ℤ → ℤ → List ℤ
+four a b c d = a ∷ b ∷ c ∷ d ∷ []
+
+unfoldable pub arrangedReply : Arranged → List ℤ
+arrangedReply (arranged.Frame width height) = four (pos 1) (pos width) (pos height) (pos 0)
+arrangedReply (arranged.Refused number lot place) = four (pos 0) (pos number) (pos lot) (pos place)
+
 unfoldable pub Short : Saved → Type 0
 Short (saved.Bytes bytes) = bytes < 2 ^ 32
 Short (saved.Unsaved number node) = Unit {0}
+
+unfoldable pub Near : Arranged → Type 0
+Near (arranged.Frame width height) = Unit {0}
+Near (arranged.Refused number lot place) = place < 2 ^ 63
 
 ------------------------------------------------------------------------
 -- The contracts
@@ -82,6 +97,6 @@ pub record Answered {A : Type 0} (Contract : A → Type 0) (reply : A → List �
   pub kept : Contract answer
   pub written : q ≡ reply answer
 
-unfoldable pub Exported : {A : Type 0} → (A → Type 0) → (A → List ℤ) → Type 0 → List ℤ → List ℤ → Bool → Type 0
-Exported Contract reply Kept q s true = (length q ≡ 3) × Answered Contract reply s
-Exported Contract reply Kept q s false = ¬ (length q ≡ 3) × (s ≡ q) × Kept
+unfoldable pub Exported : {A : Type 0} → ℕ → (A → Type 0) → (A → List ℤ) → Type 0 → List ℤ → List ℤ → Bool → Type 0
+Exported n Contract reply Kept q s true = (length q ≡ n) × Answered Contract reply s
+Exported n Contract reply Kept q s false = ¬ (length q ≡ n) × (s ≡ q) × Kept

@@ -1,7 +1,9 @@
-// The C interface. Each call that takes a reply writes its answer into it, three numbers, and returns true; where the
-// reply is not three long it writes nothing at all and returns false. include/lineage.h says what the numbers mean.
+// The C interface. Each call that takes a reply writes its answer into it, three numbers (a list of lengthens: four),
+// and returns true; where the reply is not so long it writes nothing at all and returns false. include/lineage.h says
+// what the numbers mean.
 pub mod replay;
 
+use arranging::Arranged;
 use direction::Heading;
 use drawing::Framed;
 use monotone::Verdict;
@@ -9,6 +11,7 @@ use slopes::Rule;
 use table::Counted;
 use treefile::Saved;
 ghost use mathlib.Core.Path.{_≡_};
+ghost use Prim.Native.Nat.{_^_, _<_};
 ghost use lib.IntN.{pos};
 ghost use lib.ListN.{length};
 ghost use Rattle.table.specs.Table.{large, checked};
@@ -16,11 +19,12 @@ ghost use Rattle.numbers.specs.PostNumbers.{spans, Spanned};
 ghost use Rattle.drawing.specs.Drawing.{layout, sheet, Does};
 ghost use Rattle.stretching.specs.Stretching.{lengthen, shorten};
 ghost use Rattle.holding.specs.Holding as holding;
+ghost use Rattle.arranging.specs.Arranging.{Arranges};
 ghost use Rattle.direction.specs.Direction.{Directed};
 ghost use Rattle.monotone.specs.Monotone.{Checked};
 ghost use Rattle.treefile.specs.TreeFile.{statedOrZero, Read, Wrote};
 ghost use Rattle.lineage.specs.Exports.{ruleOf, three, countedReply, framedReply, headingReply, verdictReply};
-ghost use Rattle.lineage.specs.Exports.{savedReply, Short, Unchanged, Exported};
+ghost use Rattle.lineage.specs.Exports.{savedReply, four, arrangedReply, Short, Near, Unchanged, Exported};
 
 // The rule that a bool stands for.
 fn rule_of(balanced: bool) -> Rule
@@ -79,6 +83,27 @@ fn put_framed(reply: &mut [i64], answer: Framed)
     }
 }
 
+// Writes a reply of four numbers without a sign.
+fn put_four(reply: &mut [i64], a: u32, b: u32, c: u32, d: usize)
+    requires { ⌜ (length (now reply) ≡ 4) × (d < 2 ^ 63) ⌝ }
+    ensures { λ _. ⌜ now (reply .exit) ≡ four (pos a) (pos b) (pos c) (pos d) ⌝ }
+{
+    reply[0] = a as i64;
+    reply[1] = b as i64;
+    reply[2] = c as i64;
+    reply[3] = d as i64;
+}
+
+fn put_arranged(reply: &mut [i64], answer: Arranged)
+    requires { ⌜ (length (now reply) ≡ 4) × Near answer ⌝ }
+    ensures { λ _. ⌜ now (reply .exit) ≡ arrangedReply answer ⌝ }
+{
+    match answer {
+        Arranged::Frame(width, height) => put_four(reply, 1, width, height, 0),
+        Arranged::Refused(number, lot, place) => put_four(reply, 0, number, lot, place),
+    }
+}
+
 fn put_heading(reply: &mut [i64], answer: Heading)
     requires { ⌜ length (now reply) ≡ 3 ⌝ }
     ensures { λ _. ⌜ now (reply .exit) ≡ headingReply answer ⌝ }
@@ -121,7 +146,7 @@ pub extern "C" fn lineage_post_numbers(
     work: &mut [u32],
     reply: &mut [i64],
 ) -> bool
-    ensures { λ b. ⌜ Exported
+    ensures { λ b. ⌜ Exported 3
         (Spanned large (now (parent .entry)) (now (rank .entry)) (spans (now (first .entry)) (now (last .entry)))
         (now (work .entry)) (spans (now (first .exit)) (now (last .exit))) (now (work .exit)))
         countedReply
@@ -150,7 +175,7 @@ pub extern "C" fn lineage_layout(
     work: &mut [u32],
     reply: &mut [i64],
 ) -> bool
-    ensures { λ b. ⌜ Exported
+    ensures { λ b. ⌜ Exported 3
         (Does large parent rank (sheet times x y held) work (λ P R s m. layout large P R (ruleOf balanced) s m))
         framedReply (Unchanged (sheet times x y held) work)
         (now (reply .entry)) (now (reply .exit)) b ⌝ }
@@ -178,7 +203,7 @@ pub extern "C" fn lineage_lengthen(
     count: u32,
     reply: &mut [i64],
 ) -> bool
-    ensures { λ b. ⌜ Exported
+    ensures { λ b. ⌜ Exported 3
         (Does large parent rank (sheet times x y held) work
         (λ P R s m. lengthen large P R (ruleOf balanced) s m lot count))
         framedReply (Unchanged (sheet times x y held) work)
@@ -203,6 +228,46 @@ pub extern "C" fn lineage_lengthen(
     true
 }
 
+// Makes the edges of a list of lots longer, one after another up to the first that is refused: {1, width, height, 0},
+// or {0, number, node, place} with its place in the lists, from 1, or 0 where the sheet or the lists are refused.
+#[no_mangle]
+pub extern "C" fn lineage_lengthen_each(
+    balanced: bool,
+    parent: &[u32],
+    rank: &[u32],
+    times: &mut [u32],
+    x: &mut [u32],
+    y: &mut [u32],
+    held: &[u32],
+    work: &mut [u32],
+    lots: &[u32],
+    counts: &[u32],
+    reply: &mut [i64],
+) -> bool
+    ensures { λ b. ⌜ Exported 4
+        (Arranges large parent rank (ruleOf balanced) (sheet times x y held) work lots counts)
+        arrangedReply (Unchanged (sheet times x y held) work)
+        (now (reply .entry)) (now (reply .exit)) b ⌝ }
+{
+    if reply.len() != 4 {
+        return false;
+    }
+    let answer = arranging::lengthen_each(
+        rule_of(balanced),
+        parent,
+        rank,
+        times,
+        x,
+        y,
+        held,
+        work,
+        lots,
+        counts,
+    );
+    put_arranged(reply, answer);
+    true
+}
+
 // Makes an edge shorter: {1, width, height}, or {0, number, node} where it is refused.
 #[no_mangle]
 pub extern "C" fn lineage_shorten(
@@ -218,7 +283,7 @@ pub extern "C" fn lineage_shorten(
     count: u32,
     reply: &mut [i64],
 ) -> bool
-    ensures { λ b. ⌜ Exported
+    ensures { λ b. ⌜ Exported 3
         (Does large parent rank (sheet times x y held) work
         (λ P R s m. shorten large P R (ruleOf balanced) s m lot count))
         framedReply (Unchanged (sheet times x y held) work)
@@ -258,7 +323,7 @@ pub extern "C" fn lineage_hold(
     hold: bool,
     reply: &mut [i64],
 ) -> bool
-    ensures { λ b. ⌜ Exported
+    ensures { λ b. ⌜ Exported 3
         (Does large parent rank (sheet times x y held) work
         (λ P R s m. holding.hold large P R (ruleOf balanced) s m lot hold))
         framedReply (Unchanged (sheet times x y held) work)
@@ -294,7 +359,7 @@ pub extern "C" fn lineage_direction(
     to: u32,
     reply: &mut [i64],
 ) -> bool
-    ensures { λ b. ⌜ Exported
+    ensures { λ b. ⌜ Exported 3
         (Directed large (now (parent .entry)) (now (rank .entry)) (ruleOf balanced) (now (work .entry))
         (now (work .exit)) from to)
         headingReply
@@ -320,7 +385,7 @@ pub extern "C" fn lineage_check(
     work: &mut [u32],
     reply: &mut [i64],
 ) -> bool
-    ensures { λ b. ⌜ Exported
+    ensures { λ b. ⌜ Exported 3
         (Checked checked (now (parent .entry)) (now (rank .entry)) (now (x .entry)) (now (y .entry))
         (now (work .entry)) (now (work .exit)))
         verdictReply
@@ -353,7 +418,7 @@ pub extern "C" fn lineage_read_tree(
     work: &mut [u32],
     reply: &mut [i64],
 ) -> bool
-    ensures { λ b. ⌜ Exported
+    ensures { λ b. ⌜ Exported 3
         (Read large (now (bytes .entry)) (now (parent .entry)) (now (rank .entry)) (now (work .entry))
         (now (parent .exit)) (now (rank .exit)) (now (work .exit)))
         countedReply
@@ -378,7 +443,7 @@ pub extern "C" fn lineage_write_tree(
     work: &mut [u32],
     reply: &mut [i64],
 ) -> bool
-    ensures { λ b. ⌜ Exported
+    ensures { λ b. ⌜ Exported 3
         (Wrote large (now (parent .entry)) (now (rank .entry)) (now (bytes .entry)) (now (work .entry))
         (now (bytes .exit)) (now (work .exit)))
         savedReply

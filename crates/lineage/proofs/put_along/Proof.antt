@@ -1,6 +1,6 @@
 -- A signed number of 32 bits keeps its value in 64.
 use mathlib.Core.Path.{refl, _∙_}
-use Rattle.lineage.proofs.Threes.{alike, wider, wide}
+use Rattle.lineage.proofs.Replies.{alike, wider, wide}
 use borrow.Author.Needs.{needs}
 use Rattle.lineage.proofs.put_along.Statement.{statement}
 use Rattle.lineage.proofs.put_along.Tie as tie

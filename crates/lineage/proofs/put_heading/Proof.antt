@@ -1,6 +1,6 @@
 -- Arm by arm, the three numbers of a direction or a refusal.
 use mathlib.Core.Path.{refl, sym, ap, _∙_}
-use Rattle.lineage.proofs.Threes.{alike, back32}
+use Rattle.lineage.proofs.Replies.{alike, back32}
 use Rattle.lineage.specs.Exports.{headingReply}
 use borrow.Author.Needs.{needs}
 use Rattle.lineage.proofs.put_heading.Statement.{statement}

@@ -1,7 +1,7 @@
 -- Numbers of 32 bits are themselves as signed numbers of 64.
 use native.Mathlib.Omega.{arith}
 use mathlib.Core.Path.{_∙_}
-use Rattle.lineage.proofs.Threes.{alike, natural}
+use Rattle.lineage.proofs.Replies.{alike, natural}
 use borrow.Author.Needs.{needs}
 use Rattle.lineage.proofs.put_numbers.Statement.{statement}
 use Rattle.lineage.proofs.put_numbers.Tie as tie
