@@ -1,7 +1,7 @@
 -- Document 01's cases that are marked [proved], as document 02 changes them: one table, and one theorem about the
 -- definitions. Frames count grid cells (request 101), the walk to a balanced slope tells its turns (request 104), post
--- numbers come with the first of each subtree (request 107), a lot has a direction to itself (request 109), and lines
--- can be held (request 108).
+-- numbers come with the first of each subtree (request 107), a lot has a direction to itself (request 109), lines can
+-- be held (request 108), and lengthens are made by lists (request 105).
 --
 --   Case          == a case, with what document 01 says of it
 --   Holds c       == the definitions say so
@@ -28,10 +28,13 @@ use Rattle.slopes.specs.Slopes.{levels, levelNumbers, flat, upright, levelAt, l
 use Rattle.drawing.specs.declared.Framed.{Framed}
 use Rattle.drawing.specs.declared.Framed.the-variants.{Frame, Refused}
 use Rattle.drawing.specs.Drawing as drawing
-use Rattle.drawing.specs.Drawing.{Sheet, sumUp, pathSum, freshPlaces, fresh, largest, frame, placed, nodeFits}
+use Rattle.drawing.specs.Drawing.{Sheet, sumUp, pathSum, freshPlaces, fresh, largest, frame, accepted, placed, nodeFits}
 use Rattle.drawing.specs.Drawing.{heldFits, lotFits, sheetFault, layout, lent}
 use Rattle.stretching.specs.Stretching.{moved, stretched, beyond, edgeFault, lotFault, stretchFault, lengthen, shorten}
 use Rattle.holding.specs.Holding.{hold}
+use Rattle.arranging.specs.Arranging.{listsFault, eachFault, atPlace, inTurn, lengthenEach}
+use Rattle.arranging.specs.declared.Arranged.{Arranged}
+use Rattle.arranging.specs.declared.Arranged.the-variants as arranged
 use Rattle.direction.specs.declared.Heading.the-variants.{Along}
 use Rattle.direction.specs.Direction.{sideways, heading, pairFault, direction}
 use Rattle.monotone.specs.declared.Verdict.{Verdict}
@@ -63,6 +66,8 @@ pub data Case : Type 0 where
   Numbers : List ℕ → List ℕ → Spans → Case
   -- an outcome of layout, lengthen, shorten or hold: the answer and the sheet
   Calls : Outcome Framed Sheet → Framed → Sheet → Case
+  -- an outcome of a list of lengthens: the answer and the sheet
+  Arranges : Outcome Arranged Sheet → Arranged → Sheet → Case
   -- the steep direction of the five-lot table from u to v
   Goes : ℕ → ℕ → ℤ → ℤ → Case
   -- the fractions of levels 1 to k, and how many turns lead to each: one less than its level
@@ -79,6 +84,7 @@ Holds (Numbers P R s) =
     (tabulate (length P) (postNumber P R) ≡ s .last)
     × (postNumbers large P R anySpans (4 * length P) ≡ record { answer = Nodes (length P); left = s })
 Holds (Calls o a s) = o ≡ record { answer = a; left = s }
+Holds (Arranges o a s) = o ≡ record { answer = a; left = s }
 Holds (Goes u v d e) = direction large fiveParents fiveRanks Steep 20 u v ≡ Along d e
 Holds (Levels k l turns) = (levels k flat upright ≡ l) × (tabulate (length l) (λ i. levelAt k (suc i)) ≡ map suc turns)
 Holds (Checks P R x y r) = Says checked P R x y (4 * length P) r
@@ -120,6 +126,10 @@ balanced = free ones (0 ∷ 3 ∷ 1 ∷ 6 ∷ 5 ∷ []) (0 ∷ 2 ∷ 1 ∷ 3 ∷
 
 abbrev stretchedOne : Sheet
 stretchedOne = free (1 ∷ 3 ∷ 1 ∷ 1 ∷ 1 ∷ []) (0 ∷ 3 ∷ 1 ∷ 4 ∷ 4 ∷ []) (0 ∷ 9 ∷ 4 ∷ 10 ∷ 11 ∷ [])
+
+-- then lot 3 longer by 1
+abbrev stretchedBoth : Sheet
+stretchedBoth = free (1 ∷ 3 ∷ 1 ∷ 2 ∷ 1 ∷ []) (0 ∷ 3 ∷ 1 ∷ 5 ∷ 4 ∷ []) (0 ∷ 9 ∷ 4 ∷ 11 ∷ 11 ∷ [])
 
 -- lot 1's line held; then lot 3 longer by 2
 abbrev steepHeld : Sheet
@@ -178,6 +188,18 @@ cases =
     ∷ Calls (lengthen large fiveParents fiveRanks Steep steep 20 1 2) (Frame 5 12) stretchedOne
     ∷ Calls (shorten large fiveParents fiveRanks Steep stretchedOne 20 1 3) (Refused 12 1) stretchedOne
     ∷ Calls (shorten large fiveParents fiveRanks Steep stretchedOne 20 1 2) (Frame 3 6) steep
+    -- lot 1 longer by 2 and lot 3 by 1, as two calls and as one; with lot 0 between them, which has no edge
+    ∷ Calls (lengthen large fiveParents fiveRanks Steep stretchedOne 20 3 1) (Frame 6 12) stretchedBoth
+    ∷ Arranges (lengthenEach large fiveParents fiveRanks Steep steep 20 (1 ∷ 3 ∷ []) (2 ∷ 1 ∷ []))
+    (arranged.Frame 6 12) stretchedBoth
+    ∷ Arranges (lengthenEach large fiveParents fiveRanks Steep steep 20 (1 ∷ 0 ∷ 3 ∷ []) (2 ∷ 1 ∷ 1 ∷ []))
+    (arranged.Refused 10 0 2) stretchedOne
+    -- a count too few, beside a wrong root; no lengthens at all, of a sheet and of what is none
+    ∷ Arranges (lengthenEach large (1 ∷ 0 ∷ 0 ∷ 1 ∷ 1 ∷ []) fiveRanks Steep steep 20 (1 ∷ 3 ∷ []) (2 ∷ []))
+    (arranged.Refused 19 0 0) steep
+    ∷ Arranges (lengthenEach large fiveParents fiveRanks Steep steep 20 [] []) (arranged.Frame 3 6) steep
+    ∷ Arranges (lengthenEach large fiveParents fiveRanks Steep brokenTwice 20 [] []) (arranged.Refused 8 0 0)
+    brokenTwice
     -- lot 1 held: it is not lengthened, by 0 either, and lot 3 is; freed, it is lengthened by 2 as above
     ∷ Calls (hold large fiveParents fiveRanks Steep steep 20 1 true) (Frame 3 6) steepHeld
     ∷ Calls (lengthen large fiveParents fiveRanks Steep steepHeld 20 1 0) (Refused 22 1) steepHeld
@@ -221,7 +243,8 @@ unfolding AllHold Holds cases count least tabulate climb leads isChild children 
     postorder place order postNumber hasNumber firstNumber spansOf postNumbers strayParent badRank adrift allLong
     shapeFault treeFault tableFault
     levels levelNumbers levelsFor slopeAt edge sumUp pathSum freshPlaces fresh largest frame placed nodeFits moved
-    heldFits lotFits stretched beyond sheetFault edgeFault lotFault stretchFault layout lengthen shorten hold sideways
+    heldFits lotFits stretched beyond sheetFault edgeFault lotFault stretchFault layout lengthen shorten hold accepted
+    listsFault eachFault atPlace inTurn lengthenEach sideways
     heading pairFault direction
     wordAt words statedNodes fileParents fileRanks openFault bytesOf allBytes fileOf digits decimal field lotLine
     lotLines sheetOf fileFault placesOfTable textOf sheetText
@@ -229,6 +252,7 @@ unfolding AllHold Holds cases count least tabulate climb leads isChild children 
 cases-hold =
     (refl, refl) and refl and refl and refl and refl and refl and refl and refl and refl
     and refl and refl and refl and refl and refl and refl and refl and refl and refl and refl
+    and refl and refl and refl and refl and refl and refl
     and (refl, refl) and refl and refl and refl
     and says (0 ∷ 0 ∷ 1 ∷ 2 ∷ []) (0 ∷ 0 ∷ 0 ∷ 0 ∷ []) (0 ∷ 1 ∷ 1 ∷ 0 ∷ []) (0 ∷ 0 ∷ 1 ∷ 1 ∷ [])
     and says (0 ∷ 0 ∷ 1 ∷ []) (0 ∷ 0 ∷ 0 ∷ []) (0 ∷ 1 ∷ 2 ∷ []) (0 ∷ 0 ∷ 0 ∷ [])
