@@ -20,12 +20,13 @@
  *     non-null, aligned pointer does for a length of 0). A list that a call may change must not overlap any other list
  *     of the call.
  *   - `work` is 4n numbers that the call may use; what it holds before does not matter, and what it holds after is
- *     free. Refusals 1, 2, 3 and 14, and the reader's 16 and 17, leave it as it was.
- *   - `reply` is three numbers, which the call sets. Where reply_length is not 3 the call returns false and changes
- *     nothing at all; otherwise it returns true.
- *   - A reply of {0, number, lot} is a refusal: the call changed no list but `work`. The number is that of the first
- *     ground that applies, in the order that stands with the call. The lot is the smallest of which it is true with 5,
- *     6, 7, 8 and 15, the lot that was asked for with 11, 12 and 22, and 0 otherwise. Any other reply is given below.
+ *     free. Refusals 1, 2, 3, 14 and 19, and the reader's 16 and 17, leave it as it was.
+ *   - `reply` is three numbers, and four for lineage_lengthen_each, which the call sets. Where reply_length is another
+ *     the call returns false and changes nothing at all; otherwise it returns true.
+ *   - A reply of {0, number, lot} is a refusal: the call changed no list but `work` (of a list of lengthens this is
+ *     said of the refused one). The number is that of the first ground that applies, in the order that stands with the
+ *     call. The lot is the smallest of which it is true with 5, 6, 7, 8 and 15, the lot that was asked for with 11, 12
+ *     and 22, and 0 otherwise. Any other reply is given below.
  *   - No call allocates, recurses, locks or keeps anything between calls. Calls on different lists may run at once.
  */
 #ifndef LINEAGE_H
@@ -41,10 +42,10 @@ extern "C" {
 
 /* The version of the library that this header belongs to. From 0.2 frames count grid cells; from 0.3 there is
  * lineage_post_numbers; from 0.4 a lot has a direction to itself; from 0.5 a sheet has a fourth list, held, which its
- * calls take after y, and there is lineage_hold. */
-#define LINEAGE_VERSION "0.5.0"
+ * calls take after y, and there is lineage_hold; from 0.6 there is lineage_lengthen_each. */
+#define LINEAGE_VERSION "0.6.0"
 #define LINEAGE_VERSION_MAJOR 0
-#define LINEAGE_VERSION_MINOR 5
+#define LINEAGE_VERSION_MINOR 6
 #define LINEAGE_VERSION_PATCH 0
 
 /* The most lots of a table, the most that the check takes, and the largest x and y on a sheet. */
@@ -87,6 +88,8 @@ enum lineage_refusal {
     LINEAGE_FILE_TOO_SHORT = 16,
     /* the tree file is not 4 + 8n bytes long */
     LINEAGE_WRONG_FILE_LENGTH = 17,
+    /* the list of lots and the list of counts differ in length */
+    LINEAGE_LISTS_DIFFER = 19,
     /* the lot's line is held */
     LINEAGE_HELD = 22
 };
@@ -110,6 +113,17 @@ bool lineage_shorten(bool balanced, const uint32_t *parent, size_t parent_length
                      size_t rank_length, uint32_t *times, size_t times_length, uint32_t *x, size_t x_length,
                      uint32_t *y, size_t y_length, const uint32_t *held, size_t held_length, uint32_t *work,
                      size_t work_length, uint32_t lot, uint32_t count, int64_t *reply, size_t reply_length);
+
+/* Lengthens lots[0] by counts[0], lots[1] by counts[1] and so on, as lineage_lengthen called for one after another
+ * would, up to the first that is refused. Reply: {1, width, height, 0}, also where both lists are empty, or
+ * {0, number, lot, place}. Refusals 1 to 3, 19, 4 to 8 are tested before any is made, and have place 0. Otherwise the
+ * place is that of the refused one in the lists, from 1, and its refusal is 9, 10, 22 or 11: those before it stand, and
+ * those after it are not tried. */
+bool lineage_lengthen_each(bool balanced, const uint32_t *parent, size_t parent_length, const uint32_t *rank,
+                           size_t rank_length, uint32_t *times, size_t times_length, uint32_t *x, size_t x_length,
+                           uint32_t *y, size_t y_length, const uint32_t *held, size_t held_length, uint32_t *work,
+                           size_t work_length, const uint32_t *lots, size_t lots_length, const uint32_t *counts,
+                           size_t counts_length, int64_t *reply, size_t reply_length);
 
 /* Holds the edge of `lot` where `hold` is true, and frees it where it is false: held[lot] becomes 1 or 0, whatever it
  * was, and nothing else changes. Reply: {1, width, height}. Refusals 1 to 10. */

@@ -224,7 +224,7 @@ class Refusals(unittest.TestCase):
         for name in "MAX_LOTS", "CHECK_LOTS", "MAX_PLACE":
             (given,) = re.findall(rf"#define LINEAGE_{name} (\d+)", header)
             self.assertEqual(int(given), getattr(lineage, name))
-        self.assertEqual(list(lineage.GROUNDS), [*(n for n in range(1, 18) if n != 13), 22])
+        self.assertEqual(list(lineage.GROUNDS), [*(n for n in range(1, 18) if n != 13), 19, 22])
 
 
 class Finding(unittest.TestCase):

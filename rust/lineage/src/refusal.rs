@@ -64,7 +64,7 @@ pub struct Ground {
 /// assert_eq!(lineage::GROUNDS[6].words, "the lot's parents never lead to lot 0");
 /// assert_eq!(lineage::GROUNDS[6].remedy, "break the loop");
 /// ```
-pub static GROUNDS: [Ground; 17] = include!(concat!(env!("OUT_DIR"), "/grounds.rs"));
+pub static GROUNDS: [Ground; 18] = include!(concat!(env!("OUT_DIR"), "/grounds.rs"));
 
 /// A refusal: what was asked, document 01's number of the ground, and the lot (0 where the ground names none).
 #[derive(Clone, Copy, Debug, PartialEq, Eq)]
