@@ -126,6 +126,67 @@ static void held_lines(void)
     expect("a refusal leaves all", are(times, 1, 2, 1, 1, 1) && are(held, 1, 0, 0, 2, 0));
 }
 
+static int64_t each_reply[4];
+
+static bool each_replied(bool called, int64_t a, int64_t b, int64_t c, int64_t place)
+{
+    return called && each_reply[0] == a && each_reply[1] == b && each_reply[2] == c && each_reply[3] == place;
+}
+
+static const uint32_t lots[3] = {1, 3, 0}, counts[3] = {2, 1, 1};
+
+/* As many of the lots and as many of the counts, on the steep sheet of the table with these ranks. */
+static bool lengthened_each(const uint32_t *rank, size_t some, size_t many)
+{
+    return lineage_lengthen_each(false, parent, 5, rank, 5, SHEET, WORK, lots, some, counts, many, each_reply, 4);
+}
+
+static bool is_arranged(void)
+{
+    return are(times, 1, 3, 1, 2, 1) && are(x, 0, 3, 1, 5, 4) && are(y, 0, 9, 4, 11, 11) && are(held, 0, 0, 0, 0, 0);
+}
+
+/* Document 02's list of lengthens, on the steep sheet. */
+static void lists_of_lengthens(void)
+{
+    const uint32_t bad_root[5] = {1, 0, 1, 0, 1}, past_root[3] = {1, 0, 3};
+    uint32_t before[20];
+    lineage_layout(false, TABLE, SHEET, WORK, REPLY);
+    memcpy(before, work, sizeof work);
+    memset(each_reply, -1, sizeof each_reply);
+    expect("a reply of three numbers",
+           !lineage_lengthen_each(false, TABLE, SHEET, WORK, lots, 2, counts, 2, each_reply, 3));
+    expect("nothing is done", each_replied(true, -1, -1, -1, -1) && is_fresh_steep());
+    expect("lists that differ, and a work list too short",
+           each_replied(lineage_lengthen_each(false, TABLE, SHEET, work, 19, lots, 2, counts, 1, each_reply, 4),
+                        0, LINEAGE_WRONG_LENGTH, 0, 0));
+    expect("lists that differ, and a bad root",
+           each_replied(lengthened_each(bad_root, 2, 1), 0, LINEAGE_LISTS_DIFFER, 0, 0));
+    expect("more counts than lots", each_replied(lengthened_each(ranks, 1, 2), 0, LINEAGE_LISTS_DIFFER, 0, 0));
+    expect("the work list is as it was", memcmp(before, work, sizeof work) == 0);
+    expect("a bad root", each_replied(lengthened_each(bad_root, 2, 2), 0, LINEAGE_WRONG_ROOT, 0, 0));
+    expect("empty lists", each_replied(lengthened_each(ranks, 0, 0), 1, 3, 6, 0) && is_fresh_steep());
+
+    expect("lot 1 by 2, then lot 3 by 1", each_replied(lengthened_each(ranks, 2, 2), 1, 6, 12, 0) && is_arranged());
+    lineage_layout(false, TABLE, SHEET, WORK, REPLY);
+    expect("the same singly", replied(lengthened(1, 2), 1, 5, 12) && replied(lengthened(3, 1), 1, 6, 12));
+    expect("the same sheet", is_arranged());
+
+    lineage_layout(false, TABLE, SHEET, WORK, REPLY);
+    expect("the root is second",
+           each_replied(lineage_lengthen_each(false, TABLE, SHEET, WORK, past_root, 3, counts, 3, each_reply, 4),
+                        0, LINEAGE_NO_EDGE, 0, 2));
+    expect("lot 1 is stretched, and lot 3 is not", are(times, 1, 3, 1, 1, 1) && are(y, 0, 9, 4, 10, 11));
+    hold(3, true);
+    expect("a held line is second", each_replied(lengthened_each(ranks, 3, 3), 0, LINEAGE_HELD, 3, 2));
+    expect("lot 1 is stretched again", are(times, 1, 5, 1, 1, 1) && are(y, 0, 15, 4, 16, 17));
+
+    y[4]++;
+    expect("no sheet, empty lists", each_replied(lengthened_each(ranks, 0, 0), 0, LINEAGE_NO_SHEET, 4, 0));
+    expect("no sheet", each_replied(lengthened_each(ranks, 3, 3), 0, LINEAGE_NO_SHEET, 4, 0));
+    expect("a refusal before the first leaves all", are(times, 1, 5, 1, 1, 1) && are(y, 0, 15, 4, 16, 18));
+}
+
 static void directions(void)
 {
     expect("direction 3 to 2", replied(lineage_direction(false, TABLE, WORK, 3, 2, REPLY), 1, -7, 2));
@@ -207,6 +268,7 @@ int main(void)
 {
     sheets();
     held_lines();
+    lists_of_lengthens();
     directions();
     numbers();
     checks();
