@@ -2,10 +2,13 @@
 //!
 //! The lists that a call changes are `&mut`, so no two of them overlap, as the header asks. Each call takes lists of
 //! any length and any contents; what it cannot take it refuses. It returns `false`, having written nothing, where
-//! `reply` is not three numbers long.
+//! `reply` is not three numbers long, or four for [`lengthen_each`].
 
 /// A call's reply: {0, number, lot} where it refused, otherwise as the call says.
 pub type Reply = [i64; 3];
+
+/// The reply of [`lengthen_each`]: {0, number, lot, place} where it refused, otherwise {1, width, height, 0}.
+pub type EachReply = [i64; 4];
 
 /// The lists of a sheet, each with a number for every lot: owned, or lent to a call.
 #[derive(Clone, Debug, PartialEq, Eq)]
@@ -46,13 +49,17 @@ impl Lists {
 
 /// The calls on slices, over C functions that have these names and the header's types. The benchmark has a second set,
 /// over a plain C version. Calls on a sheet differ in what they change, the drawing (times, x and y) or held, and in
-/// what stands between their work list and their reply.
+/// what stands between their work list and their reply: numbers, or, after a semicolon, lists that they read.
 #[doc(hidden)]
 #[macro_export]
 #[rustfmt::skip]
 macro_rules! calls {
     (
-        [$($on_sheet:ident = $sheet_call:ident($drawing:tt, $held:tt $(, $more:ident: $number:ty)*)),*],
+        [$(
+            $on_sheet:ident = $sheet_call:ident(
+                $drawing:tt, $held:tt $(, $more:ident: $number:ty)* $(; $($list:ident),*)?
+            )
+        ),*],
         $direction:ident, $numbers:ident, $check:ident, $read:ident, $write:ident
     ) => {
         extern "C" {
@@ -60,7 +67,7 @@ macro_rules! calls {
                 balanced: bool, parent: *const u32, parents: usize, rank: *const u32, ranks: usize,
                 times: *$drawing u32, times_length: usize, x: *$drawing u32, x_length: usize, y: *$drawing u32,
                 y_length: usize, held: *$held u32, held_length: usize, work: *mut u32, work_length: usize,
-                $($more: $number,)* reply: *mut i64, reply_length: usize,
+                $($more: $number,)* $($($list: *const u32, _: usize,)*)? reply: *mut i64, reply_length: usize,
             ) -> bool;)*
             fn $direction(
                 balanced: bool, parent: *const u32, parents: usize, rank: *const u32, ranks: usize, work: *mut u32,
@@ -87,11 +94,11 @@ macro_rules! calls {
         }
 
         $(
-        /// {1, width, height}.
+        /// {1, width, height}, and a 0 behind it where the reply is four long.
         #[allow(clippy::too_many_arguments)]
         pub fn $on_sheet(
             balanced: bool, parent: &[u32], rank: &[u32], s: $crate::raw::Lists<&mut [u32]>, work: &mut [u32],
-            $($more: $number,)* reply: &mut [i64],
+            $($more: $number,)* $($($list: &[u32],)*)? reply: &mut [i64],
         ) -> bool {
             // SAFETY: each address has its slice's length, the slices live through the call, and those that it writes
             // are exclusive.
@@ -99,7 +106,8 @@ macro_rules! calls {
                 $sheet_call(
                     balanced, parent.as_ptr(), parent.len(), rank.as_ptr(), rank.len(), s.times.as_mut_ptr(),
                     s.times.len(), s.x.as_mut_ptr(), s.x.len(), s.y.as_mut_ptr(), s.y.len(), s.held.as_mut_ptr(),
-                    s.held.len(), work.as_mut_ptr(), work.len(), $($more,)* reply.as_mut_ptr(), reply.len(),
+                    s.held.len(), work.as_mut_ptr(), work.len(), $($more,)* $($($list.as_ptr(), $list.len(),)*)?
+                    reply.as_mut_ptr(), reply.len(),
                 )
             }
         }
@@ -177,6 +185,7 @@ calls!(
         layout = lineage_layout(mut, mut),
         lengthen = lineage_lengthen(mut, const, lot: u32, count: u32),
         shorten = lineage_shorten(mut, const, lot: u32, count: u32),
+        lengthen_each = lineage_lengthen_each(mut, const; lots, counts),
         hold = lineage_hold(const, mut, lot: u32, hold: bool)
     ],
     lineage_direction,
