@@ -34,7 +34,7 @@
 pub mod raw;
 mod refusal;
 
-pub use refusal::{Call, Ground, Refused, GROUNDS};
+pub use refusal::{Call, Ground, Refused, Stopped, GROUNDS};
 use std::fmt;
 
 /// How edges get their slopes.
@@ -245,9 +245,6 @@ pub struct Frame {
     pub height: u32,
 }
 
-/// The frame of one lot.
-const CELL: Frame = Frame { width: 1, height: 1 };
-
 /// An edge (across, up) rises along it when d × across + e × up is above 0.
 #[derive(Clone, Copy, Debug, PartialEq, Eq)]
 pub struct Direction {
@@ -332,8 +329,7 @@ impl Sheet {
     }
 
     /// The sheet that these lists are, as one that was saved. It is refused with 3 where a list is not as long as the
-    /// tree, and with 8 at the first lot whose times, place or held breaks the rule. The library itself says so: it is
-    /// asked to hold a line that is held, or to free one that is free, and that is the call which a refusal names.
+    /// tree, and with 8 at the first lot whose times, place or held breaks the rule. The library itself says so.
     ///
     /// ```
     /// use lineage::{Call, Frame, Refused, Rule, Sheet, Tree};
@@ -344,7 +340,7 @@ impl Sheet {
     /// assert_eq!(sheet.frame(), Frame { width: 6, height: 6 });
     /// assert_eq!(sheet.lengthen(1, 1).unwrap_err().number, 22);
     ///
-    /// let refused = |number, lot| Refused { call: Call::Hold, number, lot };
+    /// let refused = |number, lot| Refused { call: Call::Open, number, lot };
     /// assert_eq!(of(vec![1, 5], vec![0, 4], vec![0, 0]).unwrap_err(), refused(8, 1));
     /// assert_eq!(of(vec![1, 5], vec![0, 5], vec![0, 2]).unwrap_err(), refused(8, 1));
     /// assert_eq!(of(vec![1, 5], vec![0, 5], vec![1, 0]).unwrap_err(), refused(8, 0));
@@ -365,20 +361,20 @@ impl Sheet {
         y: Vec<u32>,
         held: Vec<u32>,
     ) -> Result<Sheet, Refused> {
-        // any other entry of lot 1 is refused, with 8, and none at all with 3
-        let first = held.get(1) == Some(&1);
         let mut sheet = Sheet::unasked(tree, rule, raw::Lists { times, x, y, held });
-        match sheet.set_held(1, first) {
-            // one lot has no edge to hold; 9 comes after 3 and 8, so its lists are a sheet, of one cell
-            Err(Refused { number: 9, .. }) => Ok(sheet),
-            asked => asked.map(|_| sheet),
-        }
+        sheet.open()?;
+        Ok(sheet)
     }
 
-    /// A sheet that no call has been made on; its frame is that of one lot.
+    /// A sheet that no call has been made on; the first one sets its frame.
     fn unasked(tree: Tree, rule: Rule, lists: raw::Lists) -> Sheet {
         let work = vec![0; 4 * tree.lots()];
-        Sheet { tree, rule, lists, work, frame: CELL }
+        Sheet { tree, rule, lists, work, frame: Frame { width: 0, height: 0 } }
+    }
+
+    /// Asks for no lengthen at all: the lists are tested, and the frame becomes what they say.
+    fn open(&mut self) -> Result<Frame, Refused> {
+        self.ask_each(Call::Open, &[]).map_err(|stopped| stopped.refused)
     }
 
     /// Makes the edge of a lot longer by `count` times its slope; its whole subtree moves along, held lines too.
@@ -393,6 +389,48 @@ impl Sheet {
         self.ask(Call::Shorten, |balanced, parent, rank, lists, work, reply| {
             raw::shorten(balanced, parent, rank, lists, work, lot, count, reply)
         })
+    }
+
+    /// Lengthens a list of lots, each by its count, as [`lengthen`](Sheet::lengthen) called for one after another
+    /// would, in much less time. It stops at the first that is refused: those before it stand.
+    ///
+    /// ```
+    /// use lineage::{Call, Frame, Refused, Rule, Sheet, Stopped, Tree};
+    ///
+    /// let tree = Tree::new(vec![0, 0, 0, 1, 1], vec![0, 0, 1, 0, 1])?;
+    /// let mut sheet = Sheet::new(tree, Rule::Steep)?;
+    /// assert_eq!(sheet.lengthen_each(&[(1, 2), (3, 1)])?, Frame { width: 6, height: 12 });
+    /// assert_eq!(sheet.times(), [1, 3, 1, 2, 1]);
+    ///
+    /// let refused = Refused { call: Call::Lengthen, number: 10, lot: 0 };
+    /// assert_eq!(sheet.lengthen_each(&[(3, 4), (0, 1), (1, 1)]), Err(Stopped { place: 2, refused }));
+    /// assert_eq!(sheet.times(), [1, 3, 1, 6, 1]);
+    /// assert_eq!(sheet.frame(), Frame { width: 10, height: 16 });
+    /// # Ok::<(), Box<dyn std::error::Error>>(())
+    /// ```
+    ///
+    /// # Panics
+    ///
+    /// Never: the lists of a `Sheet` are a sheet, also after a list that stopped, and so have a frame.
+    pub fn lengthen_each(&mut self, lengthens: &[(u32, u32)]) -> Result<Frame, Stopped> {
+        self.ask_each(Call::Lengthen, lengthens).inspect_err(|_| {
+            // those before the refused one stand, and its reply has no frame
+            self.open().expect("a sheet");
+        })
+    }
+
+    /// The same, for refusals at place 0 too.
+    fn ask_each(&mut self, call: Call, lengthens: &[(u32, u32)]) -> Result<Frame, Stopped> {
+        let (lots, counts): (Vec<u32>, Vec<u32>) = lengthens.iter().copied().unzip();
+        let mut place = 0;
+        let asked = self.ask(call, |balanced, parent, rank, lists, work, reply| {
+            let mut four: raw::EachReply = [0; 4];
+            let called = raw::lengthen_each(balanced, parent, rank, lists, work, &lots, &counts, &mut four);
+            reply.copy_from_slice(&four[..3]);
+            place = four[3] as usize;
+            called
+        });
+        asked.map_err(|refused| Stopped { place, refused })
     }
 
     /// Holds the line of a lot: it keeps its length, and lengthen and shorten refuse it with 22, until it is freed. It

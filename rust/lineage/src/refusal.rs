@@ -7,7 +7,9 @@ use std::fmt;
 pub enum Call {
     /// [`Sheet::new`](crate::Sheet::new).
     Layout,
-    /// [`Sheet::lengthen`](crate::Sheet::lengthen).
+    /// [`Sheet::from_lists`](crate::Sheet::from_lists), which asks for no lengthen at all.
+    Open,
+    /// [`Sheet::lengthen`](crate::Sheet::lengthen), and each of [`Sheet::lengthen_each`](crate::Sheet::lengthen_each).
     Lengthen,
     /// [`Sheet::shorten`](crate::Sheet::shorten).
     Shorten,
@@ -29,6 +31,7 @@ impl fmt::Display for Call {
     fn fmt(&self, f: &mut fmt::Formatter<'_>) -> fmt::Result {
         f.write_str(match self {
             Call::Layout => "layout",
+            Call::Open => "the sheet",
             Call::Lengthen => "lengthen",
             Call::Shorten => "shorten",
             Call::Hold => "hold",
@@ -115,3 +118,31 @@ impl fmt::Display for Refused {
 }
 
 impl std::error::Error for Refused {}
+
+/// Where a list of lengthens stopped: those before the refused one stand, and those after it were not tried.
+///
+/// ```
+/// use lineage::{Call, Refused, Stopped};
+///
+/// let stopped = Stopped { place: 2, refused: Refused { call: Call::Lengthen, number: 10, lot: 0 } };
+/// assert_eq!(stopped.to_string(), "at place 2 of the list: lengthen refused (10): the root has no edge");
+/// ```
+#[derive(Clone, Copy, Debug, PartialEq, Eq)]
+pub struct Stopped {
+    /// The place in the list of the one that was refused, from 1.
+    pub place: usize,
+    /// Its refusal.
+    pub refused: Refused,
+}
+
+impl fmt::Display for Stopped {
+    fn fmt(&self, f: &mut fmt::Formatter<'_>) -> fmt::Result {
+        write!(f, "at place {} of the list: {}", self.place, self.refused)
+    }
+}
+
+impl std::error::Error for Stopped {
+    fn source(&self) -> Option<&(dyn std::error::Error + 'static)> {
+        Some(&self.refused)
+    }
+}

@@ -1,6 +1,8 @@
 //! The limits that the crate names are those of the library, to the last lot and place.
 
-use lineage::{check, raw, Frame, Refused, Rule, Sheet, Tree, Verdict, CHECK_LOTS, MAX_LOTS, MAX_PLACE};
+use lineage::{
+    check, raw, Call, Frame, Refused, Rule, Sheet, Stopped, Tree, Verdict, CHECK_LOTS, MAX_LOTS, MAX_PLACE,
+};
 
 /// A root with n - 1 children.
 fn star(n: u32) -> Result<Tree, Refused> {
@@ -35,6 +37,24 @@ fn held_lines() {
     }
     assert_eq!(sheet.held().iter().filter(|&&held| held == 1).count(), n - 3);
     assert_eq!((number(sheet.hold(MAX_LOTS)), number(sheet.hold(0)), number(sheet.free(0))), (9, 10, 10));
+}
+
+/// Every line of the most lots is lengthened in one call, and one line in a list much longer than the tree, up to the
+/// limit.
+#[test]
+fn lists_of_lengthens() {
+    let mut sheet = Sheet::new(star(MAX_LOTS).unwrap(), Rule::Steep).unwrap();
+    let all: Vec<(u32, u32)> = (1..MAX_LOTS).map(|lot| (lot, 1)).collect();
+    assert_eq!(sheet.lengthen_each(&all), Ok(Frame { width: 3, height: 2 * MAX_LOTS - 1 }));
+    assert!(sheet.times()[1..].iter().all(|&times| times == 2));
+
+    let mut sheet = Sheet::new(star(2).unwrap(), Rule::Steep).unwrap();
+    let mut long = vec![(1, 1); 100_000];
+    assert_eq!(sheet.lengthen_each(&long), Ok(Frame { width: 100_002, height: 100_002 }));
+    long.extend([(1, MAX_PLACE - 200_001), (1, 0), (1, 1), (1, 0)]);
+    let refused = Refused { call: Call::Lengthen, number: 11, lot: 1 };
+    assert_eq!(sheet.lengthen_each(&long), Err(Stopped { place: 100_003, refused }));
+    assert_eq!((sheet.times()[1], sheet.frame().width), (MAX_PLACE, MAX_PLACE + 1));
 }
 
 /// The post numbers of a chain, which has the largest subtrees.

@@ -52,7 +52,7 @@ fn saved_sheets_are_taken_up_again() {
     assert!(svg.contains("<title>lot 4, parent 1, at (4, 11)</title>"));
     let says = |name: &str, text: &str| fails(&["check", &tree, "--sheet", &file(name, text.as_bytes())]);
     let (status, message) = says("broken.sheet", &STRETCHED.replace("3 1 4 10", "3 1 4 9"));
-    assert!(status == 1 && message.contains("broken.sheet") && message.contains("(8) at lot 3"), "{message}");
+    assert!(status == 1 && message.contains("broken.sheet: the sheet refused (8) at lot 3: the lists"), "{message}");
     let (status, message) = says("held.sheet", &STRETCHED.replace("2 1 1 4 0", "2 1 1 4 2"));
     assert!(status == 1 && message.contains("held.sheet") && message.contains("(8) at lot 2"), "{message}");
     let (status, message) =
