@@ -165,11 +165,10 @@ bool plain_layout(bool balanced, const uint32_t *parent, size_t parents, const u
     return framed(x, y, n, reply);
 }
 
-/* Refusals 1 to 10 of a call on one lot of a sheet; the table is numbered where there is none. */
-static uint32_t lot_refused(bool balanced, const uint32_t *parent, size_t parents, const uint32_t *rank, size_t ranks,
-                            const uint32_t *times, size_t timess, const uint32_t *x, size_t xs, const uint32_t *y,
-                            size_t ys, const uint32_t *held, size_t helds, uint32_t *work, size_t works, uint32_t lot,
-                            uint32_t *bad)
+/* Refusals 1 to 8 of a call on a sheet; the table is numbered where there is none. */
+static uint32_t sheet_refused(bool balanced, const uint32_t *parent, size_t parents, const uint32_t *rank, size_t ranks,
+                              const uint32_t *times, size_t timess, const uint32_t *x, size_t xs, const uint32_t *y,
+                              size_t ys, const uint32_t *held, size_t helds, uint32_t *work, size_t works, uint32_t *bad)
 {
     uint32_t number_;
     bool others = timess == parents && xs == parents && ys == parents && helds == parents;
@@ -188,23 +187,26 @@ static uint32_t lot_refused(bool balanced, const uint32_t *parent, size_t parent
             return 8;
         }
     }
+    return 0;
+}
+
+static uint32_t lot_refused(uint32_t n, uint32_t lot)
+{
     return lot >= n ? 9 : lot == 0 ? 10 : 0;
 }
 
-static bool stretch(bool longer, bool balanced, const uint32_t *parent, size_t parents, const uint32_t *rank,
-                    size_t ranks, uint32_t *times, size_t timess, uint32_t *x, size_t xs, uint32_t *y, size_t ys,
-                    const uint32_t *held, size_t helds, uint32_t *work, size_t works, uint32_t lot, uint32_t count,
-                    int64_t *reply, size_t replies)
+/* Stretches a lot of a numbered sheet, or refuses with 9, 10, 22, and 11 or 12. */
+static uint32_t stretch_refused(bool longer, bool balanced, uint32_t n, uint32_t *times, uint32_t *x, uint32_t *y,
+                                const uint32_t *held, const uint32_t *work, uint32_t lot, uint32_t count, uint32_t *bad)
 {
-    uint32_t bad, number_;
-    if (replies != 3)
-        return false;
-    if ((number_ = lot_refused(balanced, parent, parents, rank, ranks, times, timess, x, xs, y, ys, held, helds, work,
-                               works, lot, &bad)))
-        return refused(reply, number_, bad);
+    uint32_t number_ = lot_refused(n, lot);
+    *bad = 0;
+    if (number_)
+        return number_;
+    *bad = lot;
     if (held[lot])
-        return refused(reply, 22, lot);
-    uint32_t n = (uint32_t)parents, across, up, low = work[2 * (size_t)n + lot], high = work[lot];
+        return 22;
+    uint32_t across, up, low = work[2 * (size_t)n + lot], high = work[lot];
     slope_at(balanced, n, high, &across, &up);
     uint64_t dx = (uint64_t)count * across, dy = (uint64_t)count * up;
     const uint32_t *order = work + 3 * (size_t)n;
@@ -212,7 +214,7 @@ static bool stretch(bool longer, bool balanced, const uint32_t *parent, size_t p
         for (uint32_t j = low; j <= high; j++) {
             uint32_t z = order[j - 1];
             if (x[z] + dx > LIMIT || y[z] + dy > LIMIT)
-                return refused(reply, 11, lot);
+                return 11;
         }
         for (uint32_t j = low; j <= high; j++) {
             uint32_t z = order[j - 1];
@@ -222,7 +224,7 @@ static bool stretch(bool longer, bool balanced, const uint32_t *parent, size_t p
         times[lot] += count;
     } else {
         if (count >= times[lot])
-            return refused(reply, 12, lot);
+            return 12;
         for (uint32_t j = low; j <= high; j++) {
             uint32_t z = order[j - 1];
             x[z] -= (uint32_t)dx;
@@ -230,6 +232,22 @@ static bool stretch(bool longer, bool balanced, const uint32_t *parent, size_t p
         }
         times[lot] -= count;
     }
+    return 0;
+}
+
+static bool stretch(bool longer, bool balanced, const uint32_t *parent, size_t parents, const uint32_t *rank,
+                    size_t ranks, uint32_t *times, size_t timess, uint32_t *x, size_t xs, uint32_t *y, size_t ys,
+                    const uint32_t *held, size_t helds, uint32_t *work, size_t works, uint32_t lot, uint32_t count,
+                    int64_t *reply, size_t replies)
+{
+    uint32_t bad, number_, n = (uint32_t)parents;
+    if (replies != 3)
+        return false;
+    if ((number_ = sheet_refused(balanced, parent, parents, rank, ranks, times, timess, x, xs, y, ys, held, helds, work,
+                                 works, &bad)))
+        return refused(reply, number_, bad);
+    if ((number_ = stretch_refused(longer, balanced, n, times, x, y, held, work, lot, count, &bad)))
+        return refused(reply, number_, bad);
     return framed(x, y, n, reply);
 }
 
@@ -251,19 +269,46 @@ bool plain_shorten(bool balanced, const uint32_t *parent, size_t parents, const 
                    works, lot, count, reply, replies);
 }
 
+bool plain_lengthen_each(bool balanced, const uint32_t *parent, size_t parents, const uint32_t *rank, size_t ranks,
+                         uint32_t *times, size_t timess, uint32_t *x, size_t xs, uint32_t *y, size_t ys,
+                         const uint32_t *held, size_t helds, uint32_t *work, size_t works, const uint32_t *lots,
+                         size_t lotss, const uint32_t *counts, size_t countss, int64_t *reply, size_t replies)
+{
+    uint32_t bad, number_, n = (uint32_t)parents;
+    if (replies != 4)
+        return false;
+    reply[3] = 0;
+    /* 19 stands behind 1 to 3, and has a test of its own: one in table_refused would make gcc's code for all calls slower */
+    bool fit = ranks == parents && timess == parents && xs == parents && ys == parents && helds == parents &&
+               works == 4 * parents;
+    if (lotss != countss && 0 < parents && parents <= LOTS && fit)
+        return refused(reply, 19, 0);
+    if ((number_ = sheet_refused(balanced, parent, parents, rank, ranks, times, timess, x, xs, y, ys, held, helds, work,
+                                 works, &bad)))
+        return refused(reply, number_, bad);
+    for (size_t i = 0; i < lotss; i++)
+        if ((number_ = stretch_refused(true, balanced, n, times, x, y, held, work, lots[i], counts[i], &bad))) {
+            reply[3] = (int64_t)i + 1;
+            return refused(reply, number_, bad);
+        }
+    return framed(x, y, n, reply);
+}
+
 bool plain_hold(bool balanced, const uint32_t *parent, size_t parents, const uint32_t *rank, size_t ranks,
                 const uint32_t *times, size_t timess, const uint32_t *x, size_t xs, const uint32_t *y, size_t ys,
                 uint32_t *held, size_t helds, uint32_t *work, size_t works, uint32_t lot, bool hold, int64_t *reply,
                 size_t replies)
 {
-    uint32_t bad, number_;
+    uint32_t bad, number_, n = (uint32_t)parents;
     if (replies != 3)
         return false;
-    if ((number_ = lot_refused(balanced, parent, parents, rank, ranks, times, timess, x, xs, y, ys, held, helds, work,
-                               works, lot, &bad)))
+    if ((number_ = sheet_refused(balanced, parent, parents, rank, ranks, times, timess, x, xs, y, ys, held, helds, work,
+                                 works, &bad)))
         return refused(reply, number_, bad);
+    if ((number_ = lot_refused(n, lot)))
+        return refused(reply, number_, 0);
     held[lot] = hold;
-    return framed(x, y, (uint32_t)parents, reply);
+    return framed(x, y, n, reply);
 }
 
 bool plain_direction(bool balanced, const uint32_t *parent, size_t parents, const uint32_t *rank, size_t ranks, uint32_t *work,

@@ -29,6 +29,7 @@ mod plain_c {
             layout = plain_layout(mut, mut),
             lengthen = plain_lengthen(mut, const, lot: u32, count: u32),
             shorten = plain_shorten(mut, const, lot: u32, count: u32),
+            lengthen_each = plain_lengthen_each(mut, const; lots, counts),
             hold = plain_hold(const, mut, lot: u32, hold: bool)
         ],
         plain_direction,
@@ -62,6 +63,28 @@ macro_rules! on_lists {
             pub fn shorten(l: &mut Lists, b: bool) {
                 let s = l.sheets[usize::from(b)].lent();
                 assert!(calls::shorten(b, &l.parent, &l.rank, s, &mut l.work, l.lot, 1, &mut l.reply));
+            }
+
+            /// Lengthens each of the leaves, in one call.
+            pub fn lengthen_each(l: &mut Lists, b: bool) {
+                let (s, by, mut reply) = (l.sheets[usize::from(b)].lent(), [1; super::LEAVES], [0; 4]);
+                assert!(calls::lengthen_each(b, &l.parent, &l.rank, s, &mut l.work, &l.leaves, &by, &mut reply));
+                assert_eq!(reply[3], 0, "refused: {reply:?}");
+                l.reply.copy_from_slice(&reply[..3]);
+            }
+
+            /// Lengthens each of them by a call of its own.
+            pub fn lengthen_singly(l: &mut Lists, b: bool) {
+                for &leaf in &l.leaves {
+                    let s = l.sheets[usize::from(b)].lent();
+                    assert!(calls::lengthen(b, &l.parent, &l.rank, s, &mut l.work, leaf, 1, &mut l.reply));
+                }
+            }
+
+            /// Lengthens one of them.
+            pub fn lengthen_leaf(l: &mut Lists, b: bool) {
+                let s = l.sheets[usize::from(b)].lent();
+                assert!(calls::lengthen(b, &l.parent, &l.rank, s, &mut l.work, l.leaves[0], 1, &mut l.reply));
             }
 
             pub fn hold(l: &mut Lists, b: bool) {
@@ -99,8 +122,8 @@ macro_rules! on_lists {
 on_lists!(proved, lineage::raw);
 on_lists!(plain, super::plain_c);
 
-/// The lists that the calls work on: a table with a sheet under each rule, steep first, and the lot that is stretched
-/// and held.
+/// The lists that the calls work on: a table with a sheet under each rule, steep first, the lot that is stretched and
+/// held, and the leaves that are lengthened in one call.
 #[derive(Clone, PartialEq)]
 struct Lists {
     parent: Vec<u32>,
@@ -110,6 +133,7 @@ struct Lists {
     bytes: Vec<u8>,
     reply: [i64; 3],
     lot: u32,
+    leaves: Vec<u32>,
 }
 
 impl Lists {
@@ -171,7 +195,9 @@ fn lists(shape: &str, n: usize, seed: u64) -> Lists {
         count[p] += 1;
     }
     let sheets = [raw::Lists::of(n), raw::Lists::of(n)];
-    Lists { parent, rank, sheets, work: vec![0; 4 * n], bytes: vec![0; 4 + 8 * n], reply: [0; 3], lot: 1 }
+    let ends: Vec<u32> = (0..n).filter(|&v| count[v] == 0).map(|v| name[v] as u32).collect();
+    let leaves = (0..LEAVES).map(|i| ends[i * ends.len() / LEAVES]).collect();
+    Lists { parent, rank, sheets, work: vec![0; 4 * n], bytes: vec![0; 4 + 8 * n], reply: [0; 3], lot: 1, leaves }
 }
 
 /// Trees of one shape, laid out under both rules. Random ones differ, so that a processor which learns a small tree's
@@ -256,6 +282,9 @@ fn in_turn(rounds: usize, trees: &mut [Lists], rules: &[bool], calls: [Call; 2])
     took
 }
 
+/// How many leaves are lengthened in one call: spread over the tree, and each another but in a chain.
+const LEAVES: usize = 64;
+
 const RULES: [&str; 2] = ["steep", "balanced"];
 const BOTH: [bool; 2] = [false, true];
 
@@ -266,6 +295,9 @@ struct Summary {
     ratios: Vec<(f64, String)>,
     /// how many times as long as a steep one a balanced call takes
     over_steep: Vec<OverSteep>,
+    /// by rule and shape, how many times as long as one lengthen the call for all leaves takes, and how many times as
+    /// long as that call a lengthen of each takes
+    in_one_call: Vec<(String, [(f64, f64); 2])>,
 }
 
 struct OverSteep {
@@ -300,6 +332,16 @@ impl Summary {
             let shown: Vec<_> = ratios.iter().map(|(ratio, least)| format!("{ratio:.2} ({least:.2})")).collect();
             let middle = median(ratios.iter().map(|r| r.0).collect());
             println!("| {call} | {} | {middle:.2} |", shown.join(" | "));
+        }
+    }
+
+    /// What one call for all leaves saves: by rounds, and by the fastest.
+    fn leaves_in_one_call(&self) {
+        println!("\n{LEAVES} leaves lengthened in one call:\n");
+        println!("| Rule and shape | over one lengthen | {LEAVES} lengthens over it |\n|---|---|---|");
+        for (what, [over_one, singly_over_it]) in &self.in_one_call {
+            let shown = |(ratio, least): &(f64, f64)| format!("{ratio:.2} ({least:.2})");
+            println!("| {what} | {} | {} |", shown(over_one), shown(singly_over_it));
         }
     }
 
@@ -347,6 +389,22 @@ fn ruled_calls(summary: &mut Summary, rounds: usize, trees: &mut [Lists], shape:
     time("direction", trees, [proved::direction, plain::direction]);
 }
 
+/// The leaves lengthened in one call, and singly, which takes so long that it has fewer rounds.
+fn leaves(summary: &mut Summary, rounds: usize, trees: &mut [Lists], shape: &str) {
+    let n = trees[0].lots();
+    let each = in_turn(rounds, trees, &BOTH, [proved::lengthen_each, plain::lengthen_each]);
+    let one = in_turn(rounds, trees, &BOTH, [proved::lengthen_leaf, plain::lengthen_leaf]);
+    let fewer = (rounds / 8).max(1);
+    let singly = in_turn(fewer, trees, &BOTH, [proved::lengthen_singly, plain::lengthen_singly]);
+    for (i, rule) in RULES.iter().enumerate() {
+        summary.line("lengthen_each", rule, shape, n, &each[i]);
+        summary.line("lengthen, one leaf", rule, shape, n, &one[i]);
+        summary.line("lengthen, each leaf", rule, shape, n, &singly[i]);
+        let over = [each[i][0].over(&one[i][0]), singly[i][0].over(&each[i][0])];
+        summary.in_one_call.push((format!("{rule} {shape}"), over));
+    }
+}
+
 /// The calls that have no rule.
 fn other_calls(summary: &mut Summary, rounds: usize, trees: &mut [Lists], shape: &str) {
     let mut time = |call, calls| {
@@ -380,8 +438,12 @@ fn main() {
             checks(&mut summary, (rounds / 2).max(3), shape, n);
         }
     }
+    for shape in SHAPES {
+        leaves(&mut summary, rounds, &mut trees(shape, 65_536, 1), shape);
+    }
     for (n, ..) in sizes {
         summary.balanced_over_steep(n);
     }
+    summary.leaves_in_one_call();
     summary.worst();
 }
