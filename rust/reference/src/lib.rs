@@ -16,7 +16,7 @@ pub const LIMIT: i128 = 2_147_483_647;
 
 /// Numbers that refuse without a touch to the work list.
 pub fn spares_work(number: i64) -> bool {
-    matches!(number, 1 | 2 | 3 | 14 | 16 | 17)
+    matches!(number, 1 | 2 | 3 | 14 | 16 | 17 | 19)
 }
 
 /// An accepted table as child lists, in rank order.
@@ -37,6 +37,19 @@ pub fn accept(
     most: usize,
     surplus: u32,
 ) -> Result<Tree, Refusal> {
+    accept_lengths(parent, rank, others, work, most, surplus)?;
+    accept_lists(parent, rank)
+}
+
+/// Refusals 1 to 3.
+fn accept_lengths(
+    parent: &[u32],
+    rank: &[u32],
+    others: &[usize],
+    work: usize,
+    most: usize,
+    surplus: u32,
+) -> Result<(), Refusal> {
     let n = parent.len();
     if n == 0 {
         return Err((1, 0));
@@ -47,7 +60,7 @@ pub fn accept(
     if rank.len() != n || others.iter().any(|&l| l != n) || work != 4 * n {
         return Err((3, 0));
     }
-    accept_lists(parent, rank)
+    Ok(())
 }
 
 /// Refusals 4 to 7.
@@ -219,8 +232,15 @@ impl Sheet {
 /// A reply of three numbers, as include/lineage.h has them.
 pub type Reply = [i64; 3];
 
+/// The same with a place behind it.
+pub type EachReply = [i64; 4];
+
 fn refused((number, lot): Refusal) -> Reply {
     [0, number as i64, lot as i64]
+}
+
+fn at([case, a, b]: Reply, place: i64) -> EachReply {
+    [case, a, b, place]
 }
 
 fn frame(s: &Sheet) -> Reply {
@@ -257,14 +277,13 @@ pub fn layout(balanced: bool, parent: &[u32], rank: &[u32], s: &mut Sheet, work:
     frame(s)
 }
 
-/// Refusals 1 to 10, and otherwise the tree and its slopes.
-fn open(
+/// Refusals 1 to 8, and otherwise the tree and its slopes.
+fn open_sheet(
     balanced: bool,
     parent: &[u32],
     rank: &[u32],
     s: &Sheet,
     work: usize,
-    lot: u32,
 ) -> Result<(Tree, Vec<Slope>), Refusal> {
     let tree = accept(parent, rank, &s.lengths(), work, 65_536, 2)?;
     let slopes = tree.slopes(balanced);
@@ -281,6 +300,19 @@ fn open(
             return Err((8, v as u32));
         }
     }
+    Ok((tree, slopes))
+}
+
+/// The same with 9 and 10, for calls on one lot.
+fn open(
+    balanced: bool,
+    parent: &[u32],
+    rank: &[u32],
+    s: &Sheet,
+    work: usize,
+    lot: u32,
+) -> Result<(Tree, Vec<Slope>), Refusal> {
+    let (tree, slopes) = open_sheet(balanced, parent, rank, s, work)?;
     if lot as usize >= tree.lots() {
         return Err((9, 0));
     }
@@ -361,6 +393,37 @@ pub fn shorten(
     shift(s, &tree.subtree(v), by);
     s.times[v] -= count;
     frame(s)
+}
+
+/// Lengthens each of the lots by its count, in order, up to the first that is refused.
+#[allow(clippy::too_many_arguments)]
+pub fn lengthen_each(
+    balanced: bool,
+    parent: &[u32],
+    rank: &[u32],
+    s: &mut Sheet,
+    work: usize,
+    lots: &[u32],
+    counts: &[u32],
+) -> EachReply {
+    let tested = || {
+        accept_lengths(parent, rank, &s.lengths(), work, 65_536, 2)?;
+        if lots.len() != counts.len() {
+            return Err((19, 0));
+        }
+        open_sheet(balanced, parent, rank, s, work)
+    };
+    if let Err(r) = tested() {
+        return at(refused(r), 0);
+    }
+    let mut reply = frame(s);
+    for (place, (&lot, &count)) in (1..).zip(lots.iter().zip(counts)) {
+        reply = lengthen(balanced, parent, rank, s, work, lot, count);
+        if reply[0] == 0 {
+            return at(reply, place);
+        }
+    }
+    at(reply, 0)
 }
 
 /// Holds the line of a lot, or frees it.
@@ -546,6 +609,22 @@ mod tests {
         s.held[0] = 1;
         s.times[1] = 9;
         assert_eq!(hold(false, &parent, &rank, &mut s, 20, 3, false), [0, 8, 0]);
+    }
+
+    #[test]
+    fn lists_of_lengthens_of_the_five_lots() {
+        let (parent, rank) = ([0, 0, 0, 1, 1], [0, 0, 1, 0, 1]);
+        let mut s = Sheet::made(|| vec![7; 5]);
+        layout(false, &parent, &rank, &mut s, 20);
+        let mut each = |rank: &[u32], lots: &[u32], counts: &[u32]| {
+            let reply = lengthen_each(false, &parent, rank, &mut s, 20, lots, counts);
+            (reply, s.times.clone())
+        };
+        assert_eq!(each(&rank, &[], &[]), ([1, 3, 6, 0], vec![1; 5]));
+        assert_eq!(each(&[1; 5], &[1], &[]), ([0, 19, 0, 0], vec![1; 5]));
+        assert_eq!(each(&[1; 4], &[1], &[]), ([0, 3, 0, 0], vec![1; 5]));
+        assert_eq!(each(&rank, &[1, 3], &[2, 1]), ([1, 6, 12, 0], vec![1, 3, 1, 2, 1]));
+        assert_eq!(each(&rank, &[1, 0, 3], &[2, 1, 1]), ([0, 10, 0, 2], vec![1, 5, 1, 2, 1]));
     }
 
     #[test]

@@ -25,45 +25,45 @@ fn lists(s: &mut Sheet) -> raw::Lists<&mut [u32]> {
     raw::Lists { times: &mut s.times, x: &mut s.x, y: &mut s.y, held: &mut s.held }
 }
 
-/// What every call is lent besides its lists, a work list and a reply, and what they held before.
-struct Lent {
+/// What every call is lent besides its lists, a work list and a reply of N numbers, and what they held before.
+struct Lent<const N: usize> {
     work: Vec<u32>,
     work_before: Vec<u32>,
     reply: Vec<i64>,
     reply_before: Vec<i64>,
 }
 
-impl Lent {
+impl<const N: usize> Lent<N> {
     /// Both of the right lengths, but for a few calls.
-    fn new(random: &mut Random, n: usize) -> Lent {
+    fn new(random: &mut Random, n: usize) -> Self {
         let length = if random.once_in(20) { random.below(5 * n + 2) } else { 4 * n };
         let seed = random.bits() as u32;
         let work: Vec<u32> = (0..length as u32).map(|i| i.wrapping_mul(2_654_435_761) ^ seed).collect();
-        let length = if random.once_in(100) { random.below(6) } else { 3 };
+        let length = if random.once_in(100) { random.below(6) } else { N };
         Lent::of(work, (0..length).map(|_| random.bits() as i64).collect())
     }
 
-    fn of(work: Vec<u32>, reply: Vec<i64>) -> Lent {
+    fn of(work: Vec<u32>, reply: Vec<i64>) -> Self {
         Lent { work_before: work.clone(), work, reply_before: reply.clone(), reply }
     }
 
-    /// What the plain version answers, where the reply is three long and so the call is made.
-    fn right(&self, plain: impl FnOnce(usize) -> Reply) -> Reply {
-        if self.reply.len() == 3 {
+    /// What the plain version answers, where the reply is N long and so the call is made.
+    fn right(&self, plain: impl FnOnce(usize) -> [i64; N]) -> [i64; N] {
+        if self.reply.len() == N {
             plain(self.work.len())
         } else {
-            [0; 3]
+            [0; N]
         }
     }
 
-    /// Compares the reply and the work list, or sees that nothing was done where the reply is not three long.
-    fn compare(&self, said: &str, called: bool, right: Reply, spares: fn(i64) -> bool) {
+    /// Compares the reply and the work list, or sees that nothing was done where the reply is not N long.
+    fn compare(&self, said: &str, called: bool, right: [i64; N], spares: fn(i64) -> bool) {
         let same_work = self.work == self.work_before;
-        if self.reply.len() != 3 {
+        if self.reply.len() != N {
             assert!(!called && self.reply == self.reply_before && same_work, "{said}: a reply of another length");
             return;
         }
-        assert!(called, "{said}: refused a reply of three");
+        assert!(called, "{said}: refused a reply of {N}");
         assert_eq!(self.reply, right, "{said}");
         assert!(right[0] != 0 || !spares(right[1]) || same_work, "{said}: the work list changed");
     }
@@ -74,7 +74,7 @@ impl Lent {
 struct Tally(std::collections::BTreeMap<(i64, i64), usize>);
 
 impl Tally {
-    fn note(&mut self, reply: Reply) {
+    fn note<const N: usize>(&mut self, reply: [i64; N]) {
         let key = if reply[0] == 0 { (0, reply[1]) } else { (reply[0], 0) };
         *self.0.entry(key).or_default() += 1;
     }
@@ -217,6 +217,52 @@ fn shorten() {
 #[test]
 fn hold() {
     moves("hold", &[], |random, _, _| Move::Hold(random.once_in(2)));
+}
+
+/// A list of lots and one of counts, often longer than the table: most of the lots have lines, some stand there twice,
+/// and now and then the two differ in length.
+fn lengthens(random: &mut Random, balanced: bool, parent: &[u32], rank: &[u32], s: &Sheet) -> (Vec<u32>, Vec<u32>) {
+    let n = parent.len();
+    let (mut lots, mut counts) = (Vec::new(), Vec::new());
+    for _ in 0..random.below(9) {
+        let lot = if random.once_in(5) { lot_of(random, n) } else { 1 + random.below(n.max(2) - 1) as u32 };
+        lots.push(lot);
+        counts.push(random.count(s, slope_of(balanced, parent, rank, lot)));
+    }
+    if random.once_in(20) {
+        let list = if random.once_in(2) { &mut lots } else { &mut counts };
+        random.cut(list);
+    }
+    (lots, counts)
+}
+
+#[test]
+fn lengthen_each() {
+    let mut random = Random::from_environment("lengthen_each");
+    let (mut tally, mut places) = (Tally::default(), [0; 9]);
+    for i in 0..calls() {
+        let (parent, mut rank) = random.any_table(60);
+        let balanced = random.once_in(2);
+        let mut mine = random.sheet(balanced, &parent, &rank);
+        let (lots, counts) = lengthens(&mut random, balanced, &parent, &rank, &mine);
+        lend_sheet(&mut random, &mut mine);
+        lend(&mut random, &mut rank);
+        let said =
+            format!("call {i}: lengthen_each({balanced}, {parent:?}, {rank:?}, {mine:?}, {lots:?}, {counts:?})");
+        let (mut theirs, mut lent) = (mine.clone(), Lent::new(&mut random, parent.len()));
+        let (s, work, reply) = (lists(&mut theirs), &mut lent.work[..], &mut lent.reply[..]);
+        let called = raw::lengthen_each(balanced, &parent, &rank, s, work, &lots, &counts, reply);
+        let right =
+            lent.right(|work| reference::lengthen_each(balanced, &parent, &rank, &mut mine, work, &lots, &counts));
+        lent.compare(&said, called, right, spares_work);
+        assert_eq!(mine, theirs, "{said}");
+        tally.note(right);
+        places[right[3] as usize] += 1;
+    }
+    tally.print("lengthen_each");
+    tally.has_all(&[1, 3, 19, 4, 5, 6, 7, 8, 9, 10, 22, 11]);
+    println!("lengthen_each: refused at places 1 to 8: {:?}", &places[1..]);
+    assert!(places.iter().all(|&count| count > 0) || calls() < 10_000, "never refused at some place");
 }
 
 /// Lists of calls on one sheet, from the fresh one, with the sums of document 01's "Lists of calls" kept beside.
@@ -435,7 +481,8 @@ fn shaped(shape: &str, n: usize) -> (Vec<u32>, Vec<u32>) {
     std::iter::once((0, 0)).chain(other).unzip()
 }
 
-/// Layout of n lots under both rules, the last lot's line held, and the direction between two lots that are far apart.
+/// Layout of n lots under both rules, the last lot's line held, a list of lengthens that stops there, and the direction
+/// between two lots that are far apart.
 fn limits_of_lots(shape: &str, n: usize) {
     let (parent, rank) = shaped(shape, n);
     for balanced in [false, true] {
@@ -452,6 +499,12 @@ fn limits_of_lots(shape: &str, n: usize) {
         let right = reference::hold(balanced, &parent, &rank, &mut mine, 4 * n, last, true);
         assert_eq!(reply, right, "{shape} {n} {balanced}");
         assert!(mine == theirs, "{shape} {n} {balanced}");
+        let (lots, mut each) = ([last - 1, last, 1], [0; 4]);
+        raw::lengthen_each(balanced, &parent, &rank, lists(&mut theirs), &mut w, &lots, &[1; 3], &mut each);
+        let right = reference::lengthen_each(balanced, &parent, &rank, &mut mine, 4 * n, &lots, &[1; 3]);
+        assert_eq!(each, right, "{shape} {n} {balanced}");
+        assert!(mine == theirs, "{shape} {n} {balanced}");
+        assert_eq!(right[3], if n <= 65_536 { 2 } else { 0 });
         let far = (n / 2) as u32;
         raw::direction(balanced, &parent, &rank, &mut w, 1, far, &mut reply);
         if shape != "chain" {
