@@ -1,8 +1,9 @@
 //! Demand 3 by brute force on small trees: after lists of calls every path rises along its direction, no two edges
 //! share a point but a common end, places are the sums of the calls, and the check says Monotone. A held line keeps its
-//! length until it is freed, and moves with the lots above it.
+//! length until it is freed, and moves with the lots above it. A list of lengthens made in one call counts as the
+//! single calls that it tries.
 
-use lineage::{Frame, Refused, Rule, Sheet, Tree, Verdict};
+use lineage::{Frame, Refused, Rule, Sheet, Stopped, Tree, Verdict};
 use reference::random::Random;
 
 type Place = (i128, i128);
@@ -82,7 +83,7 @@ enum Call {
 
 impl Call {
     fn any(random: &mut Random) -> Call {
-        let count = [0, 1, 2, 7, 1000, 30_000_000][random.below(6)];
+        let count = any_count(random);
         match random.below(9) {
             0..=1 => Call::Hold,
             2 => Call::Free,
@@ -110,18 +111,20 @@ impl Call {
     }
 }
 
+fn any_count(random: &mut Random) -> u32 {
+    random.one_of(&[0, 1, 2, 7, 1000, 30_000_000])
+}
+
 /// Makes a call, and sees that a held line refuses to change its length and moves with the lots above it.
-fn made(sheet: &mut Sheet, slopes: &[Place], said: &mut Said, call: Call, lot: u32) {
+fn made(sheet: &mut Sheet, slopes: &[Place], said: &mut Said, call: Call, lot: u32) -> Result<Frame, Refused> {
     let before = sheet.clone();
-    let answer = call.make(sheet, lot);
-    let Ok(frame) = answer else {
-        assert!(*sheet == before, "a refusal changed the sheet");
+    let answer = call.make(sheet, lot).inspect_err(|refused| {
         let is_held = said.held.get(lot as usize) == Some(&1);
         let stretches = !matches!(call, Call::Hold | Call::Free);
-        assert_eq!(answer.unwrap_err().number == 22, is_held && stretches, "22 is for held lines alone");
-        return;
-    };
-    assert_eq!(frame, sheet.frame());
+        assert_eq!(refused.number == 22, is_held && stretches, "22 is for held lines alone");
+    });
+    assert!(answer.is_ok() || *sheet == before, "a refusal changed the sheet");
+    assert_eq!(answer?, sheet.frame());
     let v = lot as usize;
     match call {
         Call::Hold => said.held[v] = 1,
@@ -136,6 +139,21 @@ fn made(sheet: &mut Sheet, slopes: &[Place], said: &mut Said, call: Call, lot: u
         let (from, to) = (at(&before), at(sheet));
         assert_eq!(to, (from.0 + by * slopes[v].0, from.1 + by * slopes[v].1), "lot {z}");
     }
+    answer
+}
+
+/// Makes a list of lengthens in one call, and the same singly, up to the first that is refused, on a copy of the sheet.
+fn made_each(sheet: &mut Sheet, slopes: &[Place], said: &mut Said, lengthens: &[(u32, u32)]) {
+    let (mut singly, mut right) = (sheet.clone(), Ok(sheet.frame()));
+    for (place, &(lot, count)) in (1..).zip(lengthens) {
+        let single = made(&mut singly, slopes, said, Call::Lengthen(count), lot);
+        right = single.map_err(|refused| Stopped { place, refused });
+        if right.is_err() {
+            break;
+        }
+    }
+    assert_eq!(sheet.lengthen_each(lengthens), right);
+    assert!(*sheet == singly && sheet.frame() == singly.frame(), "{lengthens:?} are not the single calls");
 }
 
 /// A list of calls from the fresh sheet, under both rules; how many lines were held and moved.
@@ -148,8 +166,15 @@ fn every_list(random: &mut Random, tree: &Tree, calls: usize) -> usize {
         let mut said = Said { added: vec![1; n], held: vec![0; n] };
         holds(&sheet, &slopes, &said);
         for _ in 0..calls {
-            let (lot, before) = (random.below(n + 1) as u32, sheet.clone());
-            made(&mut sheet, &slopes, &mut said, Call::any(random), lot);
+            let before = sheet.clone();
+            if random.once_in(4) {
+                let lengthens: Vec<(u32, u32)> =
+                    (0..random.below(6)).map(|_| (random.below(n + 1) as u32, any_count(random))).collect();
+                made_each(&mut sheet, &slopes, &mut said, &lengthens);
+            } else {
+                let lot = random.below(n + 1) as u32;
+                let _ = made(&mut sheet, &slopes, &mut said, Call::any(random), lot);
+            }
             let has_moved = |&v: &usize| sheet.held()[v] == 1 && sheet.place(v as u32) != before.place(v as u32);
             moved += (0..n).filter(has_moved).count();
         }
