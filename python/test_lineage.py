@@ -20,7 +20,7 @@ sys.path.insert(0, str(ROOT / "tests"))
 
 import cases  # noqa: E402
 import lineage  # noqa: E402
-from lineage import Refused, Sheet, Tree  # noqa: E402
+from lineage import Refused, Sheet, Stopped, Tree  # noqa: E402
 
 SEED = int(os.environ.get("LINEAGE_SEED") or time.time_ns())
 FIVE = [0, 0, 0, 1, 1], [0, 0, 1, 0, 1]
@@ -74,8 +74,7 @@ class BesidePython(unittest.TestCase):
             self.same(sheet, plain)
             for _ in range(15):
                 call = self.draw.choice(["lengthen", "lengthen", "shorten", "shorten", "hold", "free"])
-                lot = self.draw.randrange(len(lists[0]) + 1)
-                count = self.draw.choice([0, 1, 2, 5, 1000, 2**31, 2**32 - 1])
+                lot, count = self.lengthen(len(lists[0]))
                 if call in ("lengthen", "shorten"):
                     reply = self.reply(getattr(sheet, call), lot, count)
                     self.assertEqual(reply, plain.move(call == "lengthen", lot, count))
@@ -89,6 +88,36 @@ class BesidePython(unittest.TestCase):
             self.assertEqual(Sheet.from_lists(sheet.tree, sheet.rule, *lists), sheet)
             self.assertEqual(eval(repr(sheet), {"Sheet": Sheet, "Tree": Tree}), sheet)
         self.assertEqual(seen, {"lengthen", "shorten", "hold", "free", 9, 10, 11, 12, 22})
+
+    def lengthen(self, n):
+        """A lot, or now and then none, and a count."""
+        return self.draw.randrange(n + 1), self.draw.choice([0, 1, 2, 5, 1000, 2**31, 2**32 - 1])
+
+    def test_lists_of_lengthens(self):
+        places = set()
+        for _ in range(600):
+            lists = random_tree(self.draw)
+            rule, n = self.draw.randrange(2), len(lists[0])
+            sheet, plain = Sheet(Tree(*lists), RULES[rule]), cases.Sheet(cases.Tree(*lists), rule)
+            if n > 1:
+                lot = self.draw.randrange(1, n)
+                sheet.hold(lot)
+                plain.hold(lot, 1)
+            lengthens = [self.lengthen(n) for _ in range(self.draw.randrange(6))]
+            right, place = plain.frame(), 0
+            for i, (lot, count) in enumerate(lengthens, 1):
+                right = plain.move(True, lot, count)
+                if right[0] == 0:
+                    place = i
+                    break
+            try:
+                reply = (1, *sheet.lengthen_each(lengthens), 0)
+            except Stopped as stopped:
+                reply = (0, stopped.number, stopped.lot, stopped.place)
+            self.assertEqual(reply, (*right, place))
+            self.same(sheet, plain)
+            places.add(place)
+        self.assertTrue(places >= {0, 1, 2, 3}, places)
 
     def test_checks(self):
         seen = set()
@@ -153,6 +182,7 @@ class Refusals(unittest.TestCase):
         self.assertTrue(str(refused).endswith(refused.ground))
         self.assertEqual(f"at lot {lot}:" in str(refused), lineage.GROUNDS[number].names_lot)
         self.assertEqual(str(pickle.loads(pickle.dumps(refused))), str(refused))
+        return refused
 
     def test_trees(self):
         self.refused(1, 0, Tree, [], [])
@@ -189,6 +219,20 @@ class Refusals(unittest.TestCase):
         self.refused(8, 2, Sheet.from_lists, tree, "steep", times, [0, 1, 2, 2, 2], y, free)
         self.refused(8, 0, Sheet.from_lists, Tree([0], [0]), "steep", [2], [0], [0], [0])
         self.assertEqual(Sheet.from_lists(Tree([0], [0]), "steep", [1], [0], [0], [0]).frame, (1, 1))
+
+    def test_lists_of_lengthens(self):
+        tree = Tree(*FIVE)
+        sheet, singly = Sheet(tree, "steep"), Sheet(tree, "steep")
+        self.assertEqual((sheet.lengthen_each([]), sheet), ((3, 6), singly))
+        self.assertEqual(sheet.lengthen_each(iter([(1, 2), [3, 1]])), (6, 12))
+        self.assertEqual((singly.lengthen(1, 2), singly.lengthen(3, 1), sheet), ((5, 12), (6, 12), singly))
+        sheet.hold(2)
+        for number, lot, wrong in (9, 0, (5, 1)), (10, 0, (0, 0)), (22, 2, (2, 0)), (11, 1, (1, 2**31)):
+            self.assertEqual(self.refused(number, lot, sheet.lengthen_each, [wrong]).place, 1)
+            before = sheet.times[3]
+            stopped = self.refused(number, lot, sheet.lengthen_each, [(3, 1), (3, 0), wrong, (3, 1)])
+            self.assertEqual((type(stopped), stopped.place, stopped.call), (Stopped, 3, "lengthen"))
+            self.assertEqual((sheet.times[3], sheet.frame.width), (before + 1, sheet.x[3] + 1))
 
     def test_held_lines(self):
         tree = Tree(*FIVE)
@@ -290,8 +334,12 @@ class WrongValues(unittest.TestCase):
                 self.assertRaises(error, call, 1, wrong)
             for call in sheet.hold, sheet.free, sheet.place:
                 self.assertRaises(error, call, wrong)
+            self.assertRaises(error, sheet.lengthen_each, [(1, 1), (wrong, 1)])
+            self.assertRaises(error, sheet.lengthen_each, [(1, 1), (1, wrong)])
             self.assertRaises(error, lineage.check, sheet.tree, [wrong] * 5, sheet.y)
         self.assertRaises(IndexError, sheet.place, 5)
+        for wrong in [1, 1], [(1,)], [(1, 2, 3)], [(1, 1), "ab"], 7, None:
+            self.assertRaises(ValueError, sheet.lengthen_each, wrong)
 
     def test_post_numbers(self):
         lineage._ask = self.ask
