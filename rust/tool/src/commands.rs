@@ -8,7 +8,7 @@ use crate::plan::Ask;
 use crate::sheetfile::{self, Saved, Words};
 use crate::stop::{misuse, refused, Stop, REFUSED};
 use crate::{completion, help, manual, outline};
-use lineage::{check, Frame, PostNumbers, Rule, Sheet, Verdict};
+use lineage::{check, Frame, PostNumbers, Rule, Sheet, Stopped, Verdict};
 use std::ffi::OsStr;
 use std::io::Write;
 
@@ -53,25 +53,70 @@ fn opened(given: &Given, source: Source) -> Result<(Sheet, Vec<String>), Stop> {
     Ok((sheet, if source.names.is_empty() { names } else { source.names }))
 }
 
-/// A call that an option asks for; a refusal is told with what it was asked of.
-fn make_call(sheet: &mut Sheet, file: &str, option: &str, value: &OsStr) -> Result<Frame, Stop> {
-    if let "--hold" | "--free" = option {
-        let lot = number(option, value)?;
-        let called = if option == "--hold" { sheet.hold(lot) } else { sheet.free(lot) };
-        return called.map_err(refused(format!("{file}: lot {lot}")));
+/// An option that asks for a call on the sheet, as it was given, and what it says.
+struct Change<'a> {
+    option: &'static str,
+    value: &'a OsStr,
+    lot: u32,
+    count: u32,
+}
+
+impl Change<'_> {
+    fn lengthens(&self) -> bool {
+        self.option == "--lengthen"
     }
-    let (lot, count) = two(option, value)?;
-    let called = if option == "--lengthen" { sheet.lengthen(lot, count) } else { sheet.shorten(lot, count) };
-    called.map_err(refused(format!("{file}: lot {lot}, count {count}")))
+}
+
+/// The options that ask for calls, in the order that they are given in.
+fn changes(given: &Given) -> Result<Vec<Change<'_>>, Stop> {
+    let change = |(option, value)| {
+        let (lot, count) = match option {
+            "--hold" | "--free" => (number(option, value)?, 0),
+            _ => two(option, value)?,
+        };
+        Ok(Change { option, value, lot, count })
+    };
+    given.all(&["--lengthen", "--shorten", "--hold", "--free"]).map(change).collect()
+}
+
+/// The call for options one after another, which are more than one only where they all lengthen.
+fn make_call(sheet: &mut Sheet, run: &[Change]) -> Result<Frame, Stopped> {
+    let Change { option, lot, count, .. } = run[0];
+    let called = match option {
+        "--lengthen" => {
+            let lengthens: Vec<(u32, u32)> = run.iter().map(|change| (change.lot, change.count)).collect();
+            return sheet.lengthen_each(&lengthens);
+        }
+        "--shorten" => sheet.shorten(lot, count),
+        "--hold" => sheet.hold(lot),
+        _ => sheet.free(lot),
+    };
+    called.map_err(|refused| Stopped { place: 1, refused })
+}
+
+/// An option as it was given, and which of its name it is where there are more.
+fn told(changes: &[Change], at: usize) -> String {
+    let Change { option, value, .. } = changes[at];
+    let named = |changes: &[Change]| changes.iter().filter(|change| change.option == option).count();
+    let which = match named(changes) {
+        1 => String::new(),
+        all => format!(" ({} of {all})", named(&changes[..=at])),
+    };
+    format!("{option} {}{which}", value.to_string_lossy())
 }
 
 /// The sheet that the options ask for, and the names of its lots.
 fn asked(given: &Given) -> Result<(Sheet, Vec<String>), Stop> {
+    let changes = changes(given)?;
     let source = files::source(&given.words[0])?;
     let file = source.file.clone();
     let (mut sheet, names) = opened(given, source)?;
-    for (option, value) in given.all(&["--lengthen", "--shorten", "--hold", "--free"]) {
-        make_call(&mut sheet, &file, option, value)?;
+    let mut made = 0;
+    for run in changes.chunk_by(|a, b| a.lengthens() && b.lengthens()) {
+        make_call(&mut sheet, run).map_err(|stopped| {
+            refused(format!("{file}: {}", told(&changes, made + stopped.place - 1)))(stopped.refused)
+        })?;
+        made += run.len();
     }
     Ok((sheet, names))
 }

@@ -19,7 +19,33 @@ fn sheets() {
     assert_eq!(out(&["sheet", &tree, "--lengthen", "1:2", "--shorten=1:2"]), FRESH);
     let (status, message) = fails(&["sheet", &tree, "--lengthen", "1:2", "--shorten", "1:3"]);
     assert_eq!(status, 1);
-    assert!(message.contains("sheets.tree") && message.contains("(12) at lot 1"), "{message}");
+    assert!(message.contains("sheets.tree: --shorten 1:3: shorten refused (12) at lot 1: the count"), "{message}");
+}
+
+/// Lengthens that stand together are made in one call; which option was refused is told in any case.
+#[test]
+fn lists_of_lengthens() {
+    let tree = five("lengthens.tree");
+    assert_eq!(out(&["sheet", &tree, "--lengthen=1:1", "--lengthen", "1:0", "--lengthen=1:1"]), STRETCHED);
+    assert_eq!(out(&["sheet", &tree, "--lengthen=1:1", "--hold=2", "--free=2", "--lengthen=1:1"]), STRETCHED);
+    let fails_with = |words: &[&str], said: &str| {
+        let (status, message) = fails(&[&["sheet", &tree], words].concat());
+        assert!(status == 1 && message.contains(&format!("lengthens.tree: {said}")), "{words:?}: {message}");
+    };
+    fails_with(&["--lengthen", "0:1"], "--lengthen 0:1: lengthen refused (10): the root has no edge");
+    fails_with(
+        &["--lengthen=1:2", "--lengthen=0:1", "--lengthen=9:1"],
+        "--lengthen 0:1 (2 of 3): lengthen refused (10)",
+    );
+    let apart = ["--lengthen", "1:2", "--hold", "3", "--lengthen", "2:1", "--lengthen", "3:01"];
+    fails_with(&apart, "--lengthen 3:01 (3 of 3): lengthen refused (22) at lot 3: the lot's line is held");
+    fails_with(
+        &["--hold=3", "--lengthen=1:2", "--hold=9"],
+        "--hold 9 (2 of 2): hold refused (9): there is no such lot",
+    );
+    // a wrong value is told before any call is made
+    let (status, message) = fails(&["sheet", &tree, "--lengthen", "0:1", "--lengthen", "1"]);
+    assert!(status == 2 && message.contains("--lengthen: '1' is not two numbers"), "{message}");
 }
 
 #[test]
@@ -29,11 +55,11 @@ fn held_lines() {
         let (status, message) = fails(&[&["sheet", &tree], words].concat());
         assert!(status == 1 && message.contains("held.tree") && message.contains(said), "{words:?}: {message}");
     };
-    fails_with(&["--hold", "1", "--lengthen", "1:0"], "lot 1, count 0: lengthen refused (22) at lot 1:");
+    fails_with(&["--hold", "1", "--lengthen", "1:0"], "--lengthen 1:0: lengthen refused (22) at lot 1:");
     fails_with(&["--lengthen", "1:2", "--hold=1", "--shorten=1:1"], "shorten refused (22) at lot 1: the lot's line");
     fails_with(&["--hold", "1", "--free", "1", "--hold", "1", "--lengthen", "1:2"], "(22)");
-    fails_with(&["--hold", "0"], "held.tree: lot 0: hold refused (10): the root has no edge");
-    fails_with(&["--free", "5"], "held.tree: lot 5: hold refused (9): there is no such lot");
+    fails_with(&["--hold", "0"], "held.tree: --hold 0: hold refused (10): the root has no edge");
+    fails_with(&["--free", "5"], "held.tree: --free 5: hold refused (9): there is no such lot");
     // in the order that they are given in, whatever their kind
     assert_eq!(out(&["sheet", &tree, "--hold", "1", "--free", "1", "--lengthen", "1:2"]), STRETCHED);
     let held = out(&["sheet", &tree, "--hold=3", "--lengthen=1:2", "--hold=4", "--free=4"]);
