@@ -109,6 +109,14 @@ class Sheet:
             self.y[z] += up
         return self.frame()
 
+    def lengthen_each(self, lengthens):
+        """The single calls in order, up to the first refused one, and its place in the list from 1, or else 0."""
+        for place, (v, c) in enumerate(lengthens, 1):
+            answer = self.move(1, v, c)
+            if answer[0] == 0:
+                return (*answer, place if self.tree.n <= LOTS else 0)
+        return (*self.frame(), 0)
+
 
 def wider(cone, e, f):
     """The cone that holds the vector (e, f) too: its two outermost vectors, clockwise first; () without any, None where
@@ -207,6 +215,7 @@ def case(shape, relabelled, rule, n):
     ]:
         answer = sheet.hold(v, c) if kind == 2 else sheet.move(kind, v, c)
         show(kind, v, c, *answer, *whole(sheet))
+    show(*sheet.lengthen_each([(n // 4, 1), (half, 10), (n // 4, 2), (last, 1), (half, 1)]), *whole(sheet))
     for k in reversed(range(32)):  # the middle lot as far as it goes
         sheet.move(1, half, 2**k)
     show(1, half, 1, *sheet.move(1, half, 1), *whole(sheet))

@@ -3,6 +3,7 @@
 //
 // Each line ends with its lists, each mixed into one number: three, or the four of a sheet. What is printed is compared
 // with the output of tests/cases.py, which makes the same calls in plain Python.
+use arranging::Arranged;
 use drawing::Framed;
 use monotone::Verdict;
 use slopes::Rule;
@@ -369,7 +370,68 @@ fn reach(
     show_call(last, rule, parent, rank, times, x, y, held, work);
 }
 
-// The list of calls, and the edge of the middle node lengthened as far as it goes.
+// 1, the frame and 0, or 0, the refusal and its place.
+fn show_arranged(answer: Arranged) {
+    match answer {
+        Arranged::Frame(width, height) => {
+            show_three(1, width, height);
+            show(0);
+        }
+        Arranged::Refused(number, node, place) => {
+            show_three(0, number, node);
+            show((place % 4294967296) as u32);
+        }
+    }
+}
+
+// A list of lengthens in one call. The fourth is of a held edge, and so the fifth is not tried.
+fn arrange(
+    rule: Rule,
+    parent: &[u32],
+    rank: &[u32],
+    times: &mut [u32],
+    x: &mut [u32],
+    y: &mut [u32],
+    held: &[u32],
+    work: &mut [u32],
+) {
+    let n = (parent.len() % 4294967296) as u32;
+    let last = (before(parent.len()) % 4294967296) as u32;
+    let lots = [n / 4, n / 2, n / 4, last, n / 2];
+    let counts = [1u32, 10, 2, 1, 1];
+    let answer = arranging::lengthen_each(
+        rule,
+        parent,
+        rank,
+        times,
+        x,
+        y,
+        held,
+        work,
+        &lots,
+        &counts,
+    );
+    show_arranged(answer);
+    show_sheet(times, x, y, held);
+}
+
+// A list of lengthens, and the edge of the middle node lengthened as far as it goes.
+fn arrange_and_reach(
+    rule: Rule,
+    parent: &[u32],
+    rank: &[u32],
+    times: &mut [u32],
+    x: &mut [u32],
+    y: &mut [u32],
+    held: &mut [u32],
+    work: &mut [u32],
+) {
+    arrange(rule, parent, rank, times, x, y, held, work);
+    let middle = (parent.len() / 2 % 4294967296) as u32;
+    reach(middle, rule, parent, rank, times, x, y, held, work);
+}
+
+// The single calls, then those.
 fn stretch(
     rule: Rule,
     parent: &[u32],
@@ -381,8 +443,7 @@ fn stretch(
     work: &mut [u32],
 ) {
     calls(rule, parent, rank, times, x, y, held, work);
-    let middle = (parent.len() / 2 % 4294967296) as u32;
-    reach(middle, rule, parent, rank, times, x, y, held, work);
+    arrange_and_reach(rule, parent, rank, times, x, y, held, work);
 }
 
 // The fresh sheet, and what is made of it.
