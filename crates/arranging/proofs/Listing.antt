@@ -2,7 +2,7 @@
 use mathlib.Core.Bool.{Bool, false, not}
 use mathlib.Core.List.{List}
 use mathlib.Core.Option.{Option, none, some}
-use mathlib.Core.Path.{_≡_, refl, sym, ap, subst, _∙_}
+use mathlib.Core.Path.{_≡_, refl, sym, ap, _∙_}
 use Prim.Native.Nat.{ℕ}
 use native.Mathlib.Omega.{arith}
 use lib.Dec.{eqb}
@@ -117,14 +117,3 @@ module _ {L : Limits} {P R : List ℕ} {rule : Rule} {s : Sheet} {W : List ℕ} 
     spared = p .spared;
     long = p .long;
   }
-
--- at limits that are the same
-pub each-at : {L M : Limits} (P R : List ℕ) (rule : Rule) (s : Sheet) (W lots counts : List ℕ) {t : Sheet} {X : List ℕ}
-    {a : Arranged} → L ≡ M
-    → Called (listsFault L P R s (length W) lots counts) W X
-    (record { answer = a; left = t } ≡ lengthenEach L P R rule s (length W) lots counts)
-    → Called (listsFault M P R s (length W) lots counts) W X
-    (record { answer = a; left = t } ≡ lengthenEach M P R rule s (length W) lots counts)
-each-at P R rule s W lots counts {t} {X} {a} e =
-    subst (λ L. Called (listsFault L P R s (length W) lots counts) W X
-    (record { answer = a; left = t } ≡ lengthenEach L P R rule s (length W) lots counts)) e

@@ -90,9 +90,3 @@ module _ {L : Limits} {P R : List ℕ} {s : Sheet} {W X : List ℕ} {r : Validit
         spared = p .spared;
         long = p .long;
       }
-
--- at limits that are the same
-pub laid-at : {L M : Limits} (P R : List ℕ) (rule : Rule) (s : Sheet) (W : List ℕ) {t : Sheet} {X : List ℕ}
-    {r : Framed} → L ≡ M → OnSheet L P R s W t X r (layout L P R rule s (length W))
-    → OnSheet M P R s W t X r (layout M P R rule s (length W))
-laid-at P R rule s W {t} {X} {r} e = subst (λ M. OnSheet M P R s W t X r (layout M P R rule s (length W))) e

@@ -7,7 +7,7 @@
 --   SizedSheet P R s W     == a Sized drawing, and held as long
 --   Prepared L .. r        == refusals 1 to 7 of a call on the sheet s; if none, s is a SizedSheet
 use mathlib.Core.List.{List}
-use mathlib.Core.Path.{_≡_, ap, subst⁻¹}
+use mathlib.Core.Path.{_≡_, subst⁻¹}
 use Prim.Native.Nat.{ℕ, _+_, _^_, _<_}
 use native.Mathlib.Omega.{arith}
 use lib.ListN.{length}
@@ -15,7 +15,7 @@ use Rattle.table.specs.declared.Limits.{Limits}
 use Rattle.table.specs.declared.Validity.{Validity}
 use Rattle.table.specs.Numbering.{NumberedTree}
 use Rattle.table.specs.Parts.{Tested}
-use Rattle.table.specs.Table.{large, tableFault}
+use Rattle.table.specs.Table.{tableFault}
 use Rattle.slopes.specs.declared.Rule.{Rule}
 use Rattle.slopes.specs.SlopeLaws.{acrossBound, upBound}
 use Rattle.drawing.specs.Drawing.{Drawing, Sheet, lengthsFit, largest}
@@ -51,6 +51,3 @@ pub framable : {limit : ℕ} {P R : List ℕ} {rule : Rule} {s t : Drawing} → 
 framable low d is =
     subst⁻¹ (λ (u : Drawing). Framable (u .x) (u .y)) is
     (omega (arith, largest-within (d .x)), omega (arith, largest-within (d .y)))
-
-pub large-frames : {L : Limits} → L ≡ large → FramesFit L
-large-frames e = omega (arith, ap (λ (L : Limits). L .place) e)

@@ -1,7 +1,7 @@
 -- Hold's outcome from what its parts say.
 use mathlib.Core.Bool.{Bool}
 use mathlib.Core.List.{List}
-use mathlib.Core.Path.{_≡_, refl, sym, subst, _∙_}
+use mathlib.Core.Path.{_≡_, refl, sym, _∙_}
 use Prim.Native.Nat.{ℕ, _<_}
 use native.Mathlib.Omega.{arith}
 use lib.ListN.{length, set}
@@ -53,9 +53,3 @@ module _ {L : Limits} {P R : List ℕ} (rule : Rule) {s : Sheet} {W X : List ℕ
       spared = k .spared;
       long = k .long;
     }
-
--- at limits that are the same
-pub held-at : {L M : Limits} (P R : List ℕ) (rule : Rule) (s : Sheet) (W : List ℕ) (v : ℕ) (on : Bool) {t : Sheet}
-    {X : List ℕ} {r : Framed} → L ≡ M → OnSheet L P R s W t X r (hold L P R rule s (length W) v on)
-    → OnSheet M P R s W t X r (hold M P R rule s (length W) v on)
-held-at P R rule s W v on {t} {X} {r} e = subst (λ M. OnSheet M P R s W t X r (hold M P R rule s (length W) v on)) e

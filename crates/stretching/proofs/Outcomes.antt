@@ -287,14 +287,3 @@ module _ {L : Limits} {P R : List ℕ} (rule : Rule) {s : Sheet} {W : List ℕ} 
                     (back-room (x .inspected .accepting .tree) (x .above) (x .inside) (x .inspected .sound .drawn .y)
                     less);
               }
-
--- at limits that are the same
-module _ {L M : Limits} (P R : List ℕ) (rule : Rule) (s : Sheet) (W : List ℕ) (v c : ℕ) {t : Sheet} {X : List ℕ}
-    {r : Framed} (e : L ≡ M) where
-  pub lengthened-at : OnSheet L P R s W t X r (lengthen L P R rule s (length W) v c)
-      → OnSheet M P R s W t X r (lengthen M P R rule s (length W) v c)
-  lengthened-at = subst (λ M. OnSheet M P R s W t X r (lengthen M P R rule s (length W) v c)) e
-
-  pub shortened-at : OnSheet L P R s W t X r (shorten L P R rule s (length W) v c)
-      → OnSheet M P R s W t X r (shorten M P R rule s (length W) v c)
-  shortened-at = subst (λ M. OnSheet M P R s W t X r (shorten M P R rule s (length W) v c)) e
