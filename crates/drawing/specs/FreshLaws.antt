@@ -14,7 +14,7 @@ use Rattle.laws.specs.SearchLaws.{length-tabulate, getD-tabulate}
 use Rattle.laws.specs.Sums.{sum}
 use Rattle.table.specs.declared.Limits.{Limits}
 use Rattle.table.specs.Numbering.{numbering}
-use Rattle.table.specs.Table.{postNumber, large}
+use Rattle.table.specs.Table.{postNumber, large, small}
 use Rattle.table.specs.TableLaws.{Tree}
 use Rattle.slopes.specs.declared.Rule.{Rule}
 use Rattle.slopes.specs.declared.Rule.the-variants.{Steep, Balanced}
@@ -75,6 +75,9 @@ roomy L k enough balanced wide tall = record { across = across; up = up }
 
 pub large-roomy : Roomy large
 large-roomy = roomy large 16 (omega arith) (omega arith) (omega arith) (omega arith)
+
+pub small-roomy : Roomy small
+small-roomy = roomy small 10 (omega arith) (omega arith) (omega arith) (omega arith)
 
 ------------------------------------------------------------------------
 -- The fresh drawing

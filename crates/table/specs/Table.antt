@@ -17,7 +17,8 @@
 --   postNumber P R v         == v's place in it, from 1
 --   hasNumber P R v j        == a node in v's subtree has the post number j
 --   firstNumber P R v        == the first post number in v's subtree: the least
---   large, checked, printed  == the limits of a call on a table, of the check, and of the program `sheet`
+--   large, small             == the limits of a call on a table, and of the small cabinet's (document 02, request 106)
+--   checked, printed         == those of the check, and of the program `sheet`
 --   shapeFault L ..          == refusals 1 to 3 at the limits L
 --   treeFault P R            == refusals 4 to 7
 --   tableFault L ..          == both, in this order
@@ -107,6 +108,9 @@ farthest = 2147483647
 
 abbrev pub large : Limits
 large = record { nodes = 65536; many = 2; place = farthest; far = 11 }
+
+abbrev pub small : Limits
+small = record { nodes = 1024; many = 20; place = 1048575; far = 21 }
 
 abbrev pub checked : Limits
 checked = record { nodes = 4096; many = 14; place = farthest; far = 15 }

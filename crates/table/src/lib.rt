@@ -12,7 +12,7 @@ ghost use Rattle.laws.specs.Regions.{Only};
 ghost use Rattle.laws.specs.Search.{least};
 ghost use Rattle.table.specs.Acceptance.{validity};
 ghost use Rattle.table.specs.Table.{climb, postNumber, strayParent, badRank, adrift, allLong, shapeFault};
-ghost use Rattle.table.specs.Table.{large, checked, printed};
+ghost use Rattle.table.specs.Table.{large, small, checked, printed};
 ghost use Rattle.table.specs.Parts.{Scratch, Zeroed, Tallied, Started, Seating, Occupied, marked, Marking};
 ghost use Rattle.table.specs.Parts.{Reaching, Lengths, Rooted, Structured, Validated, Ready, Seated};
 ghost use Rattle.table.specs.Parts.{Leftmost, Next, Visited, Copied, Prepared};
@@ -41,7 +41,7 @@ pub enum Counted {
 
 const FARTHEST: u32 = 2147483647;
 
-// The limits of every call but the check.
+// The limits of every call but the check and those of the small cabinet.
 pub fn large_limits() -> Limits
     ensures { λ r. ⌜ r ≡ large ⌝ }
 {
@@ -50,6 +50,18 @@ pub fn large_limits() -> Limits
         many: 2,
         place: FARTHEST,
         far: 11,
+    }
+}
+
+// The limits of the small cabinet's calls.
+pub fn small_limits() -> Limits
+    ensures { λ r. ⌜ r ≡ small ⌝ }
+{
+    Limits {
+        nodes: 1024,
+        many: 20,
+        place: 1048575,
+        far: 21,
     }
 }
 
