@@ -4,7 +4,7 @@
  * Link with liblineage.so or liblineage.a; `tools/package PREFIX` writes both, with a file for pkg-config. Every
  * function below is proved to do what its contract in crates/lineage/src/lib.rt says, for all lists of all lengths.
  *
- * A table of n lots, 1 to 65,536, is two lists of n numbers:
+ * A table of n lots, 1 to 65,536 (1,024 on the small cabinet), is two lists of n numbers:
  *     parent[v]   the lot that v hangs on; the root is lot 0, with parent 0
  *     rank[v]     v's place among the children of its parent, from 0; the root has rank 0
  * A sheet of a table under a rule is four lists of n numbers:
@@ -20,13 +20,13 @@
  *     non-null, aligned pointer does for a length of 0). A list that a call may change must not overlap any other list
  *     of the call.
  *   - `work` is 4n numbers that the call may use; what it holds before does not matter, and what it holds after is
- *     free. Refusals 1, 2, 3, 14 and 19, and the reader's 16 and 17, leave it as it was.
+ *     free. Refusals 1, 2, 3, 14, 19 and 20, and the reader's 16 and 17, leave it as it was.
  *   - `reply` is three numbers, and four for lineage_lengthen_each, which the call sets. Where reply_length is another
  *     the call returns false and changes nothing at all; otherwise it returns true.
  *   - A reply of {0, number, lot} is a refusal: the call changed no list but `work` (of a list of lengthens this is
  *     said of the refused one). The number is that of the first ground that applies, in the order that stands with the
- *     call. The lot is the smallest of which it is true with 5, 6, 7, 8 and 15, the lot that was asked for with 11, 12
- *     and 22, and 0 otherwise. Any other reply is given below.
+ *     call. The lot is the smallest of which it is true with 5, 6, 7, 8 and 15, the lot that was asked for with 11, 12,
+ *     21 and 22, and 0 otherwise. Any other reply is given below.
  *   - No call allocates, recurses, locks or keeps anything between calls. Calls on different lists may run at once.
  */
 #ifndef LINEAGE_H
@@ -42,16 +42,19 @@ extern "C" {
 
 /* The version of the library that this header belongs to. From 0.2 frames count grid cells; from 0.3 there is
  * lineage_post_numbers; from 0.4 a lot has a direction to itself; from 0.5 a sheet has a fourth list, held, which its
- * calls take after y, and there is lineage_hold; from 0.6 there is lineage_lengthen_each. */
-#define LINEAGE_VERSION "0.6.0"
+ * calls take after y, and there is lineage_hold; from 0.6 there is lineage_lengthen_each; from 0.7 the small cabinet
+ * has calls of its own. */
+#define LINEAGE_VERSION "0.7.0"
 #define LINEAGE_VERSION_MAJOR 0
-#define LINEAGE_VERSION_MINOR 6
+#define LINEAGE_VERSION_MINOR 7
 #define LINEAGE_VERSION_PATCH 0
 
-/* The most lots of a table, the most that the check takes, and the largest x and y on a sheet. */
+/* The most lots of a table, the most that the check takes, and the largest x and y on a sheet; the small cabinet's. */
 #define LINEAGE_MAX_LOTS 65536
 #define LINEAGE_CHECK_LOTS 4096
 #define LINEAGE_MAX_PLACE 2147483647
+#define LINEAGE_SMALL_LOTS 1024
+#define LINEAGE_SMALL_PLACE 1048575
 
 /* Why a call refuses: the second number of a reply that is a refusal.
  * 13 is no longer given: up to version 0.3 it refused a direction from a lot to itself. */
@@ -90,6 +93,10 @@ enum lineage_refusal {
     LINEAGE_WRONG_FILE_LENGTH = 17,
     /* the list of lots and the list of counts differ in length */
     LINEAGE_LISTS_DIFFER = 19,
+    /* there are more than 1,024 lots */
+    LINEAGE_TOO_MANY_FOR_SMALL = 20,
+    /* some place would be above 1,048,575 */
+    LINEAGE_WOULD_PASS_SMALL_PLACE = 21,
     /* the lot's line is held */
     LINEAGE_HELD = 22
 };
@@ -132,6 +139,29 @@ bool lineage_hold(bool balanced, const uint32_t *parent, size_t parent_length, c
                   size_t x_length, const uint32_t *y, size_t y_length, uint32_t *held, size_t held_length,
                   uint32_t *work, size_t work_length, uint32_t lot, bool hold, int64_t *reply,
                   size_t reply_length);
+
+/* The small cabinet: at most 1,024 lots, and no place above 1,048,575. Its layout, lengthen and shorten are calls of
+ * their own, which refuse more lots with 20, in the place of 2; a place that would be above with 21, in the place of
+ * 11; and a sheet that has such a place with 8. Within these limits they reply what the calls above reply, and leave
+ * what those leave, refusals too; so a sheet may go from one cabinet to the other, and the other calls serve both.
+ *
+ * Refusals 1, 20, 3 to 7. */
+bool lineage_small_layout(bool balanced, const uint32_t *parent, size_t parent_length, const uint32_t *rank,
+                          size_t rank_length, uint32_t *times, size_t times_length, uint32_t *x, size_t x_length,
+                          uint32_t *y, size_t y_length, uint32_t *held, size_t held_length, uint32_t *work,
+                          size_t work_length, int64_t *reply, size_t reply_length);
+
+/* Refusals 1, 20, 3 to 10, 22, 21. */
+bool lineage_small_lengthen(bool balanced, const uint32_t *parent, size_t parent_length, const uint32_t *rank,
+                            size_t rank_length, uint32_t *times, size_t times_length, uint32_t *x, size_t x_length,
+                            uint32_t *y, size_t y_length, const uint32_t *held, size_t held_length, uint32_t *work,
+                            size_t work_length, uint32_t lot, uint32_t count, int64_t *reply, size_t reply_length);
+
+/* Refusals 1, 20, 3 to 10, 22, 12. */
+bool lineage_small_shorten(bool balanced, const uint32_t *parent, size_t parent_length, const uint32_t *rank,
+                           size_t rank_length, uint32_t *times, size_t times_length, uint32_t *x, size_t x_length,
+                           uint32_t *y, size_t y_length, const uint32_t *held, size_t held_length, uint32_t *work,
+                           size_t work_length, uint32_t lot, uint32_t count, int64_t *reply, size_t reply_length);
 
 /* A direction along which every edge of the tree path from one lot to another rises, on each sheet of the table under
  * the rule. Reply: {1, d, e}: an edge of (across, up) rises when d * across + e * up is above 0. From a lot to itself

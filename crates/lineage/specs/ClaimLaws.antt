@@ -6,6 +6,7 @@
 --   tried-leaves  == a call leaves what the single calls that it tries leave
 --   run-append    == a list of calls after another
 --   demand-3      == the claim at the large limits
+--   small-claim   == the claim at those of the small cabinet
 use mathlib.Core.Bool.{Bool, true, false, cond}
 use mathlib.Core.List.{List, [], _∷_, _++_, zipWith}
 use mathlib.Core.Logic.{⊎-elim, _↔_}
@@ -25,7 +26,7 @@ use Rattle.laws.specs.Tests.{by-eq, differ, neither-is}
 use Rattle.table.specs.Acceptance.{shape-fits, accepting}
 use Rattle.table.specs.declared.Limits.{Limits}
 use Rattle.table.specs.Paths.{PathRises}
-use Rattle.table.specs.Table.{allLong, shapeFault, treeFault, tableFault, large, checked}
+use Rattle.table.specs.Table.{allLong, shapeFault, treeFault, tableFault, large, small, checked}
 use Rattle.table.specs.TableLaws.{Tree}
 use Rattle.slopes.specs.declared.Rule.{Rule}
 use Rattle.slopes.specs.declared.Slope.{Slope}
@@ -35,7 +36,7 @@ use Rattle.drawing.specs.declared.Framed.{Framed}
 use Rattle.drawing.specs.declared.Framed.the-variants.{Frame}
 use Rattle.drawing.specs.Drawing.{Drawing, Sheet, lengthsFit, frame, accepted, pathSum, fresh, freshSheet, layout}
 use Rattle.drawing.specs.DrawingLaws.{Coordinate, stepOf}
-use Rattle.drawing.specs.FreshLaws.{Roomy, large-roomy, fresh-once}
+use Rattle.drawing.specs.FreshLaws.{Roomy, large-roomy, small-roomy, fresh-once}
 use Rattle.drawing.specs.PathLaws.{adds-path, path-cong}
 use Rattle.drawing.specs.SheetLaws.{Sound}
 use Rattle.stretching.specs.CallLaws.{Untouched, Stretching, lengthen-does, shorten-does}
@@ -419,3 +420,9 @@ large-fits = record { roomy = large-roomy; few = omega arith; near = omega arith
 
 pub demand-3 : Claim large
 demand-3 = claim large large-fits
+
+pub small-fits : LimitsFit small
+small-fits = record { roomy = small-roomy; few = omega arith; near = omega arith }
+
+pub small-claim : Claim small
+small-claim = claim small small-fits

@@ -14,7 +14,7 @@ ghost use mathlib.Core.Path.{_≡_};
 ghost use Prim.Native.Nat.{_^_, _<_};
 ghost use lib.IntN.{pos};
 ghost use lib.ListN.{length};
-ghost use Rattle.table.specs.Table.{large, checked};
+ghost use Rattle.table.specs.Table.{large, small, checked};
 ghost use Rattle.numbers.specs.PostNumbers.{spans, Spanned};
 ghost use Rattle.drawing.specs.Drawing.{layout, sheet, Does};
 ghost use Rattle.stretching.specs.Stretching.{lengthen, shorten};
@@ -343,6 +343,112 @@ pub extern "C" fn lineage_hold(
         work,
         lot,
         hold,
+    );
+    put_framed(reply, answer);
+    true
+}
+
+// Writes a fresh sheet of the small cabinet: {1, width, height}, or {0, number, node} where it is refused.
+#[no_mangle]
+pub extern "C" fn lineage_small_layout(
+    balanced: bool,
+    parent: &[u32],
+    rank: &[u32],
+    times: &mut [u32],
+    x: &mut [u32],
+    y: &mut [u32],
+    held: &mut [u32],
+    work: &mut [u32],
+    reply: &mut [i64],
+) -> bool
+    ensures { λ b. ⌜ Exported 3
+        (Does small parent rank (sheet times x y held) work (λ P R s m. layout small P R (ruleOf balanced) s m))
+        framedReply (Unchanged (sheet times x y held) work)
+        (now (reply .entry)) (now (reply .exit)) b ⌝ }
+{
+    if reply.len() != 3 {
+        return false;
+    }
+    let answer = small::layout_small(rule_of(balanced), parent, rank, times, x, y, held, work);
+    put_framed(reply, answer);
+    true
+}
+
+// Makes an edge longer on the small cabinet: {1, width, height}, or {0, number, node} where it is refused.
+#[no_mangle]
+pub extern "C" fn lineage_small_lengthen(
+    balanced: bool,
+    parent: &[u32],
+    rank: &[u32],
+    times: &mut [u32],
+    x: &mut [u32],
+    y: &mut [u32],
+    held: &[u32],
+    work: &mut [u32],
+    lot: u32,
+    count: u32,
+    reply: &mut [i64],
+) -> bool
+    ensures { λ b. ⌜ Exported 3
+        (Does small parent rank (sheet times x y held) work
+        (λ P R s m. lengthen small P R (ruleOf balanced) s m lot count))
+        framedReply (Unchanged (sheet times x y held) work)
+        (now (reply .entry)) (now (reply .exit)) b ⌝ }
+{
+    if reply.len() != 3 {
+        return false;
+    }
+    let answer = small::lengthen_small(
+        rule_of(balanced),
+        parent,
+        rank,
+        times,
+        x,
+        y,
+        held,
+        work,
+        lot,
+        count,
+    );
+    put_framed(reply, answer);
+    true
+}
+
+// Makes an edge shorter on the small cabinet: {1, width, height}, or {0, number, node} where it is refused.
+#[no_mangle]
+pub extern "C" fn lineage_small_shorten(
+    balanced: bool,
+    parent: &[u32],
+    rank: &[u32],
+    times: &mut [u32],
+    x: &mut [u32],
+    y: &mut [u32],
+    held: &[u32],
+    work: &mut [u32],
+    lot: u32,
+    count: u32,
+    reply: &mut [i64],
+) -> bool
+    ensures { λ b. ⌜ Exported 3
+        (Does small parent rank (sheet times x y held) work
+        (λ P R s m. shorten small P R (ruleOf balanced) s m lot count))
+        framedReply (Unchanged (sheet times x y held) work)
+        (now (reply .entry)) (now (reply .exit)) b ⌝ }
+{
+    if reply.len() != 3 {
+        return false;
+    }
+    let answer = small::shorten_small(
+        rule_of(balanced),
+        parent,
+        rank,
+        times,
+        x,
+        y,
+        held,
+        work,
+        lot,
+        count,
     );
     put_framed(reply, answer);
     true

@@ -48,8 +48,9 @@ impl Lists {
 }
 
 /// The calls on slices, over C functions that have these names and the header's types. The benchmark has a second set,
-/// over a plain C version. Calls on a sheet differ in what they change, the drawing (times, x and y) or held, and in
-/// what stands between their work list and their reply: numbers, or, after a semicolon, lists that they read.
+/// over a plain C version, and the small cabinet one of calls on a sheet alone. These differ in what they change, the
+/// drawing (times, x and y) or held, and in what stands between their work list and their reply: numbers, or, after a
+/// semicolon, lists that they read.
 #[doc(hidden)]
 #[macro_export]
 #[rustfmt::skip]
@@ -59,8 +60,8 @@ macro_rules! calls {
             $on_sheet:ident = $sheet_call:ident(
                 $drawing:tt, $held:tt $(, $more:ident: $number:ty)* $(; $($list:ident),*)?
             )
-        ),*],
-        $direction:ident, $numbers:ident, $check:ident, $read:ident, $write:ident
+        ),*]
+        $(, $direction:ident, $numbers:ident, $check:ident, $read:ident, $write:ident)?
     ) => {
         extern "C" {
             $(fn $sheet_call(
@@ -69,6 +70,7 @@ macro_rules! calls {
                 y_length: usize, held: *$held u32, held_length: usize, work: *mut u32, work_length: usize,
                 $($more: $number,)* $($($list: *const u32, _: usize,)*)? reply: *mut i64, reply_length: usize,
             ) -> bool;)*
+            $(
             fn $direction(
                 balanced: bool, parent: *const u32, parents: usize, rank: *const u32, ranks: usize, work: *mut u32,
                 work_length: usize, from: u32, to: u32, reply: *mut i64, reply_length: usize,
@@ -91,6 +93,7 @@ macro_rules! calls {
                 parent: *const u32, parents: usize, rank: *const u32, ranks: usize, bytes: *mut u8,
                 bytes_length: usize, work: *mut u32, work_length: usize, reply: *mut i64, reply_length: usize,
             ) -> bool;
+            )?
         }
 
         $(
@@ -113,6 +116,7 @@ macro_rules! calls {
         }
         )*
 
+        $(
         /// {1, d, e}.
         pub fn direction(
             balanced: bool, parent: &[u32], rank: &[u32], work: &mut [u32], from: u32, to: u32, reply: &mut [i64],
@@ -177,6 +181,7 @@ macro_rules! calls {
                 )
             }
         }
+        )?
     };
 }
 
@@ -194,6 +199,12 @@ calls!(
     lineage_read_tree,
     lineage_write_tree
 );
+
+calls!([
+    small_layout = lineage_small_layout(mut, mut),
+    small_lengthen = lineage_small_lengthen(mut, const, lot: u32, count: u32),
+    small_shorten = lineage_small_shorten(mut, const, lot: u32, count: u32)
+]);
 
 extern "C" {
     fn lineage_stated_nodes(bytes: *const u8, bytes_length: usize) -> u32;

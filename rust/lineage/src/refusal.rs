@@ -7,7 +7,7 @@ use std::fmt;
 pub enum Call {
     /// [`Sheet::new`](crate::Sheet::new).
     Layout,
-    /// [`Sheet::from_lists`](crate::Sheet::from_lists), which asks for no lengthen at all.
+    /// [`Sheet::from_lists`](crate::Sheet::from_lists), which asks whether lists are a sheet.
     Open,
     /// [`Sheet::lengthen`](crate::Sheet::lengthen), and each of [`Sheet::lengthen_each`](crate::Sheet::lengthen_each).
     Lengthen,
@@ -67,7 +67,7 @@ pub struct Ground {
 /// assert_eq!(lineage::GROUNDS[6].words, "the lot's parents never lead to lot 0");
 /// assert_eq!(lineage::GROUNDS[6].remedy, "break the loop");
 /// ```
-pub static GROUNDS: [Ground; 18] = include!(concat!(env!("OUT_DIR"), "/grounds.rs"));
+pub static GROUNDS: [Ground; 20] = include!(concat!(env!("OUT_DIR"), "/grounds.rs"));
 
 /// A refusal: what was asked, document 01's number of the ground, and the lot (0 where the ground names none).
 #[derive(Clone, Copy, Debug, PartialEq, Eq)]
