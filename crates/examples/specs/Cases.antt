@@ -1,7 +1,8 @@
 -- Document 01's cases that are marked [proved], as document 02 changes them: one table, and one theorem about the
 -- definitions. Frames count grid cells (request 101), the walk to a balanced slope tells its turns (request 104), post
 -- numbers come with the first of each subtree (request 107), a lot has a direction to itself (request 109), lines can
--- be held (request 108), and lengthens are made by lists (request 105).
+-- be held (request 108), lengthens are made by lists (request 105), and the small cabinet has limits of its own
+-- (request 106).
 --
 --   Case          == a case, with what document 01 says of it
 --   Holds c       == the definitions say so
@@ -11,19 +12,23 @@
 use mathlib.Core.Bool.{true, false}
 use mathlib.Core.List.{List, [], _∷_, _++_, map}
 use mathlib.Core.Path.{_≡_, refl}
-use Prim.Native.Nat.{ℕ, suc, _+_, _*_}
+use Prim.Native.Nat.{ℕ, suc, _+_, _*_, _≤_}
+use native.Mathlib.Nat.{pow-le-pow-right}
+use native.Mathlib.Omega.{arith}
 use lib.IntN.{ℤ, pos, negℤ}
 use lib.ListN.{length}
 use Rattle.laws.specs.Refusals.{refusal}
 use Rattle.laws.specs.Search.{count, least, tabulate, Outcome}
 use Rattle.table.specs.declared.Counted.the-variants.{Nodes}
 use Rattle.table.specs.Table.{climb, leads, isChild, children, isChildAt, childAt, under, stepsUp, forest, postorder}
-use Rattle.table.specs.Table.{place, order, postNumber, hasNumber, firstNumber, large, checked, strayParent, badRank}
-use Rattle.table.specs.Table.{adrift, allLong, shapeFault, treeFault, tableFault}
+use Rattle.table.specs.Table.{place, order, postNumber, hasNumber, firstNumber, large, small, checked}
+use Rattle.table.specs.Table.{strayParent, badRank, adrift, allLong, shapeFault, treeFault, tableFault}
 use Rattle.numbers.specs.PostNumbers.{Spans, spans, spansOf, postNumbers}
+use Rattle.slopes.specs.declared.Rule.{Rule}
 use Rattle.slopes.specs.declared.Rule.the-variants.{Steep, Balanced}
 use Rattle.slopes.specs.declared.Slope.{Slope}
 use Rattle.slopes.specs.Examples.{_over_}
+use Rattle.slopes.specs.SlopeLaws.{levelsFor-is, acrossBound, upBound}
 use Rattle.slopes.specs.Slopes.{levels, levelNumbers, flat, upright, levelAt, levelsFor, slopeAt, edge}
 use Rattle.drawing.specs.declared.Framed.{Framed}
 use Rattle.drawing.specs.declared.Framed.the-variants.{Frame, Refused}
@@ -64,6 +69,8 @@ anySpans = spans (7 ∷ 7 ∷ 7 ∷ 7 ∷ 7 ∷ []) (7 ∷ 7 ∷ 7 ∷ 7 ∷ 7 �
 pub data Case : Type 0 where
   -- the post numbers of a table's nodes, and the lists of first and last numbers that the call fills with them
   Numbers : List ℕ → List ℕ → Spans → Case
+  -- document 01's bounds of a fresh sheet of 1,024 lots, across and up, and that the small cabinet has room for it
+  Reaches : Rule → ℕ → ℕ → Case
   -- an outcome of layout, lengthen, shorten or hold: the answer and the sheet
   Calls : Outcome Framed Sheet → Framed → Sheet → Case
   -- an outcome of a list of lengthens: the answer and the sheet
@@ -83,6 +90,9 @@ unfoldable pub Holds : Case → Type 0
 Holds (Numbers P R s) =
     (tabulate (length P) (postNumber P R) ≡ s .last)
     × (postNumbers large P R anySpans (4 * length P) ≡ record { answer = Nodes (length P); left = s })
+Holds (Reaches rule across up) =
+    (acrossBound rule (small .nodes) ≡ across) × (upBound rule (small .nodes) ≡ up)
+    × (across ≤ small .place) × (up ≤ small .place)
 Holds (Calls o a s) = o ≡ record { answer = a; left = s }
 Holds (Arranges o a s) = o ≡ record { answer = a; left = s }
 Holds (Goes u v d e) = direction large fiveParents fiveRanks Steep 20 u v ≡ Along d e
@@ -165,8 +175,9 @@ two = 0 ∷ 0 ∷ []
 abbrev freshTwo : Sheet
 freshTwo = drawing.sheetOf (lent (1 ∷ 1 ∷ []) (0 ∷ 1 ∷ []) (0 ∷ 1 ∷ [])) two
 
-abbrev farTwo : Sheet
-farTwo = drawing.sheetOf (lent (1 ∷ 2147483647 ∷ []) (0 ∷ 2147483647 ∷ []) (0 ∷ 2147483647 ∷ [])) two
+-- with lot 1 at a place on the diagonal
+abbrev farTwo : ℕ → Sheet
+farTwo place = drawing.sheetOf (lent (1 ∷ place ∷ []) (0 ∷ place ∷ []) (0 ∷ place ∷ [])) two
 
 ------------------------------------------------------------------------
 -- The table
@@ -218,8 +229,17 @@ cases =
     ∷ Calls (layout large one one Balanced (drawing.sheetOf (lent (9 ∷ []) (9 ∷ []) (9 ∷ [])) (9 ∷ [])) 4) (Frame 1 1)
     (drawing.sheetOf (lent (1 ∷ []) one one) one)
     -- two lots, up to the largest place and one beyond it
-    ∷ Calls (lengthen large two two Steep freshTwo 8 1 2147483646) (Frame 2147483648 2147483648) farTwo
+    ∷ Calls (lengthen large two two Steep freshTwo 8 1 2147483646) (Frame 2147483648 2147483648)
+    (farTwo 2147483647)
     ∷ Calls (lengthen large two two Steep freshTwo 8 1 2147483647) (Refused 11 1) freshTwo
+    -- the small cabinet: it has room for every fresh sheet; two lots, up to its largest place and one beyond it, and
+    -- beyond it already, which is no sheet there
+    ∷ Reaches Steep 1023 523776
+    ∷ Reaches Balanced 29524 29524
+    ∷ Calls (lengthen small two two Steep freshTwo 8 1 1048574) (Frame 1048576 1048576) (farTwo 1048575)
+    ∷ Calls (lengthen small two two Steep freshTwo 8 1 1048575) (Refused 21 1) freshTwo
+    ∷ Calls (lengthen small two two Steep (farTwo 1048576) 8 1 0) (Refused 8 1) (farTwo 1048576)
+    ∷ Calls (lengthen large two two Steep (farTwo 1048576) 8 1 0) (Frame 1048577 1048577) (farTwo 1048576)
     -- chains, and two lots at one place
     ∷ Checks (0 ∷ 0 ∷ 1 ∷ 2 ∷ []) (0 ∷ 0 ∷ 0 ∷ 0 ∷ []) (0 ∷ 1 ∷ 1 ∷ 0 ∷ []) (0 ∷ 0 ∷ 1 ∷ 1 ∷ []) (Turns 0 3)
     ∷ Checks (0 ∷ 0 ∷ 1 ∷ []) (0 ∷ 0 ∷ 0 ∷ []) (0 ∷ 1 ∷ 2 ∷ []) (0 ∷ 0 ∷ 0 ∷ []) Monotone
@@ -233,6 +253,17 @@ cases =
 
 says : (P R x y : List ℕ) → Says checked P R x y (4 * length P) (decide checked P R x y (4 * length P))
 says P R x y = decide-says checked P R x y (4 * length P)
+
+ten-levels : levelsFor 1024 ≡ 10
+ten-levels =
+    levelsFor-is 1024 10 (omega arith)
+    (λ i l.
+    let most : i ≤ 9 = omega arith in
+    omega (arith, pow-le-pow-right {n = 2} (omega arith) most))
+
+reaches : Holds (Reaches Balanced 29524 29524)
+unfolding Holds
+reaches = rw ten-levels (refl, refl, omega arith, omega arith)
 
 infixr 20 _and_
 abbrev _and_ : {A B : Type 0} → A → B → A × B
@@ -254,6 +285,7 @@ cases-hold =
     and refl and refl and refl and refl and refl and refl and refl and refl and refl and refl
     and refl and refl and refl and refl and refl and refl
     and (refl, refl) and refl and refl and refl
+    and (refl, refl, omega arith, omega arith) and reaches and refl and refl and refl and refl
     and says (0 ∷ 0 ∷ 1 ∷ 2 ∷ []) (0 ∷ 0 ∷ 0 ∷ 0 ∷ []) (0 ∷ 1 ∷ 1 ∷ 0 ∷ []) (0 ∷ 0 ∷ 1 ∷ 1 ∷ [])
     and says (0 ∷ 0 ∷ 1 ∷ []) (0 ∷ 0 ∷ 0 ∷ []) (0 ∷ 1 ∷ 2 ∷ []) (0 ∷ 0 ∷ 0 ∷ [])
     and says two two two two
