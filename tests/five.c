@@ -187,6 +187,45 @@ static void lists_of_lengthens(void)
     expect("a refusal before the first leaves all", are(times, 1, 5, 1, 1, 1) && are(y, 0, 15, 4, 16, 18));
 }
 
+/* Document 02's small cabinet: the same sheets up to its limits, on the steep sheet, and on two lots at its edge. */
+static void small_cabinet(void)
+{
+    static uint32_t many[4 * (LINEAGE_SMALL_LOTS + 1)];
+    const size_t over = LINEAGE_SMALL_LOTS + 1;
+    const uint32_t edge = LINEAGE_SMALL_PLACE;
+    uint32_t before[20];
+    memset(reply, -1, sizeof reply);
+    memset(times, -1, sizeof times);
+    expect("a reply of two numbers", !lineage_small_layout(false, TABLE, SHEET, WORK, reply, 2));
+    expect("nothing is done", reply[0] == -1 && reply[1] == -1 && times[1] == UINT32_MAX);
+    expect("steep frame", replied(lineage_small_layout(false, TABLE, SHEET, WORK, REPLY), 1, 3, 6));
+    expect("steep sheet", is_fresh_steep());
+    expect("lengthen lot 1 by 2", replied(lineage_small_lengthen(false, TABLE, SHEET, WORK, 1, 2, REPLY), 1, 5, 12));
+    expect("lots 1, 3 and 4 moved", are(times, 1, 3, 1, 1, 1) && are(x, 0, 3, 1, 4, 4) && are(y, 0, 9, 4, 10, 11));
+    expect("shorten by 3",
+           refused(lineage_small_shorten(false, TABLE, SHEET, WORK, 1, 3, REPLY), LINEAGE_COUNT_TOO_LARGE, 1));
+    expect("shorten by 2", replied(lineage_small_shorten(false, TABLE, SHEET, WORK, 1, 2, REPLY), 1, 3, 6));
+    expect("the fresh sheet is back", is_fresh_steep());
+    expect("hold lot 1", replied(hold(1, true), 1, 3, 6));
+    expect("a held line, however far",
+           refused(lineage_small_lengthen(false, TABLE, SHEET, WORK, 1, UINT32_MAX, REPLY), LINEAGE_HELD, 1));
+    memcpy(before, work, sizeof work);
+    expect("a lot too many", refused(lineage_small_layout(false, many, over, many, over, SHEET, WORK, REPLY),
+                                     LINEAGE_TOO_MANY_FOR_SMALL, 0));
+    expect("it comes before 3, and leaves all", memcmp(before, work, sizeof work) == 0 && are(held, 0, 1, 0, 0, 0));
+
+#define PAIR parent, 2, parent, 2, times, 2, x, 2, y, 2, held, 2, work, 8
+    expect("two lots", replied(lineage_small_layout(false, PAIR, REPLY), 1, 2, 2));
+    expect("to beyond the edge",
+           refused(lineage_small_lengthen(false, PAIR, 1, edge, REPLY), LINEAGE_WOULD_PASS_SMALL_PLACE, 1));
+    expect("to the edge", replied(lineage_small_lengthen(false, PAIR, 1, edge - 1, REPLY), 1, edge + 1, edge + 1));
+    expect("the large cabinet goes on", replied(lineage_lengthen(false, PAIR, 1, 1, REPLY), 1, edge + 2, edge + 2));
+    expect("no sheet of the small one",
+           refused(lineage_small_shorten(false, PAIR, 1, 1, REPLY), LINEAGE_NO_SHEET, 1));
+    expect("a refusal leaves it", times[1] == edge + 1 && x[1] == edge + 1 && y[1] == edge + 1);
+#undef PAIR
+}
+
 static void directions(void)
 {
     expect("direction 3 to 2", replied(lineage_direction(false, TABLE, WORK, 3, 2, REPLY), 1, -7, 2));
@@ -269,6 +308,7 @@ int main(void)
     sheets();
     held_lines();
     lists_of_lengthens();
+    small_cabinet();
     directions();
     numbers();
     checks();
