@@ -64,14 +64,73 @@ impl fmt::Display for Rule {
     }
 }
 
+/// What draws a sheet: it says how many lots a sheet can have, and how far out their places can be. Within its limits
+/// the small cabinet answers what the large one answers, and leaves what that leaves.
+///
+/// ```
+/// use lineage::{Cabinet, Rule, Sheet, Tree, SMALL_PLACE};
+///
+/// let pair = Tree::new(vec![0, 0], vec![0, 0])?;
+/// let mut small = Sheet::new_in(pair.clone(), Rule::Steep, Cabinet::Small)?;
+/// let mut large = Sheet::new(pair, Rule::Steep)?;
+/// assert_eq!(small.lengthen(1, SMALL_PLACE - 1), large.lengthen(1, SMALL_PLACE - 1));
+/// assert_eq!(small, large);
+///
+/// let refused = small.lengthen(1, 1).unwrap_err();
+/// assert_eq!(refused.to_string(), "lengthen refused (21) at lot 1: some place would be above 1,048,575");
+/// assert!(large.lengthen(1, 1).is_ok());
+/// # Ok::<(), lineage::Refused>(())
+/// ```
+#[derive(Clone, Copy, Debug, PartialEq, Eq)]
+pub enum Cabinet {
+    /// Up to [`MAX_LOTS`] lots, with places up to [`MAX_PLACE`].
+    Large,
+    /// Up to [`SMALL_LOTS`] lots, with places up to [`SMALL_PLACE`].
+    Small,
+}
+
+impl Cabinet {
+    /// Both cabinets, the large one first.
+    pub const ALL: [Cabinet; 2] = [Cabinet::Large, Cabinet::Small];
+
+    /// The most lots of a tree.
+    pub fn max_lots(self) -> u32 {
+        match self {
+            Cabinet::Large => MAX_LOTS,
+            Cabinet::Small => SMALL_LOTS,
+        }
+    }
+
+    /// The largest x and y on a sheet.
+    pub fn max_place(self) -> u32 {
+        match self {
+            Cabinet::Large => MAX_PLACE,
+            Cabinet::Small => SMALL_PLACE,
+        }
+    }
+
+    fn entries(self) -> &'static raw::Entries {
+        match self {
+            Cabinet::Large => &raw::LARGE,
+            Cabinet::Small => &raw::SMALL,
+        }
+    }
+}
+
 /// The most lots of a tree.
 pub const MAX_LOTS: u32 = 65_536;
+
+/// The most lots of a tree on the small cabinet.
+pub const SMALL_LOTS: u32 = 1024;
 
 /// The most lots of a drawing that the check takes.
 pub const CHECK_LOTS: u32 = 4096;
 
 /// The largest x and y on a sheet.
 pub const MAX_PLACE: u32 = 2_147_483_647;
+
+/// The largest x and y on a sheet of the small cabinet.
+pub const SMALL_PLACE: u32 = 1_048_575;
 
 /// Makes a call with a reply of three numbers, which it sets: the reply's case and its two numbers, or the refusal that
 /// it is.
@@ -296,7 +355,8 @@ pub fn direction(tree: &Tree, rule: Rule, from: u32, to: u32) -> Result<Directio
     Ok(Direction { d: d as i32, e: e as i32 })
 }
 
-/// A tree drawn under a rule. Two sheets are equal where tree, rule, times, places and held lines are.
+/// A tree drawn under a rule, on the large cabinet unless the small one is asked for. Two sheets are equal where tree,
+/// rule, times, places and held lines are.
 ///
 /// ```
 /// use lineage::{Rule, Sheet, Tree};
@@ -314,6 +374,7 @@ pub fn direction(tree: &Tree, rule: Rule, from: u32, to: u32) -> Result<Directio
 pub struct Sheet {
     tree: Tree,
     rule: Rule,
+    cabinet: Cabinet,
     lists: raw::Lists,
     work: Vec<u32>,
     frame: Frame,
@@ -322,9 +383,14 @@ pub struct Sheet {
 impl Sheet {
     /// The fresh sheet, with every times 1 and no line held.
     pub fn new(tree: Tree, rule: Rule) -> Result<Sheet, Refused> {
+        Sheet::new_in(tree, rule, Cabinet::Large)
+    }
+
+    /// The same on a cabinet: the small one refuses more than 1,024 lots, with 20.
+    pub fn new_in(tree: Tree, rule: Rule, cabinet: Cabinet) -> Result<Sheet, Refused> {
         let lists = raw::Lists::of(tree.lots());
-        let mut sheet = Sheet::unasked(tree, rule, lists);
-        sheet.ask(Call::Layout, raw::layout)?;
+        let mut sheet = Sheet::unasked(tree, rule, cabinet, lists);
+        sheet.ask(Call::Layout, cabinet.entries().layout)?;
         Ok(sheet)
     }
 
@@ -361,38 +427,80 @@ impl Sheet {
         y: Vec<u32>,
         held: Vec<u32>,
     ) -> Result<Sheet, Refused> {
-        let mut sheet = Sheet::unasked(tree, rule, raw::Lists { times, x, y, held });
-        sheet.open()?;
+        Sheet::from_lists_in(tree, rule, Cabinet::Large, times, x, y, held)
+    }
+
+    /// The same on a cabinet: the small one refuses more than 1,024 lots with 20, and a place above 1,048,575 with 8.
+    ///
+    /// ```
+    /// use lineage::{Cabinet, Rule, Sheet, Tree, SMALL_PLACE};
+    ///
+    /// let pair = Tree::new(vec![0, 0], vec![0, 0])?;
+    /// let of = |at, cabinet| {
+    ///     Sheet::from_lists_in(pair.clone(), Rule::Steep, cabinet, vec![1, at], vec![0, at], vec![0, at], vec![0, 0])
+    /// };
+    /// assert_eq!(of(SMALL_PLACE, Cabinet::Small)?.frame().width, SMALL_PLACE + 1);
+    /// let refused = of(SMALL_PLACE + 1, Cabinet::Small).unwrap_err();
+    /// assert_eq!((refused.number, refused.lot), (8, 1));
+    /// assert!(of(SMALL_PLACE + 1, Cabinet::Large).is_ok());
+    /// # Ok::<(), lineage::Refused>(())
+    /// ```
+    pub fn from_lists_in(
+        tree: Tree,
+        rule: Rule,
+        cabinet: Cabinet,
+        times: Vec<u32>,
+        x: Vec<u32>,
+        y: Vec<u32>,
+        held: Vec<u32>,
+    ) -> Result<Sheet, Refused> {
+        let mut sheet = Sheet::unasked(tree, rule, cabinet, raw::Lists { times, x, y, held });
+        if cabinet == Cabinet::Small {
+            sheet.test()?;
+        }
+        sheet.find_frame()?;
         Ok(sheet)
     }
 
     /// A sheet that no call has been made on; the first one sets its frame.
-    fn unasked(tree: Tree, rule: Rule, lists: raw::Lists) -> Sheet {
+    fn unasked(tree: Tree, rule: Rule, cabinet: Cabinet, lists: raw::Lists) -> Sheet {
         let work = vec![0; 4 * tree.lots()];
-        Sheet { tree, rule, lists, work, frame: Frame { width: 0, height: 0 } }
+        Sheet { tree, rule, cabinet, lists, work, frame: Frame { width: 0, height: 0 } }
     }
 
-    /// Asks for no lengthen at all: the lists are tested, and the frame becomes what they say.
-    fn open(&mut self) -> Result<Frame, Refused> {
+    /// Refused where the lists are no sheet of the cabinet: it is asked for a lot that there is not, and says so, with
+    /// 9, only of a sheet.
+    fn test(&mut self) -> Result<(), Refused> {
+        match self.stretch(Call::Open, self.cabinet.entries().lengthen, self.tree.lots() as u32, 0) {
+            Err(refused) if refused.number != 9 => Err(refused),
+            _ => Ok(()),
+        }
+    }
+
+    /// Asks the large cabinet for no lengthen at all: the lists are tested, and the frame becomes what they say.
+    fn find_frame(&mut self) -> Result<Frame, Refused> {
         self.ask_each(Call::Open, &[]).map_err(|stopped| stopped.refused)
     }
 
     /// Makes the edge of a lot longer by `count` times its slope; its whole subtree moves along, held lines too.
     pub fn lengthen(&mut self, lot: u32, count: u32) -> Result<Frame, Refused> {
-        self.ask(Call::Lengthen, |balanced, parent, rank, lists, work, reply| {
-            raw::lengthen(balanced, parent, rank, lists, work, lot, count, reply)
-        })
+        self.stretch(Call::Lengthen, self.cabinet.entries().lengthen, lot, count)
     }
 
     /// Makes it shorter again, to at least one times its slope.
     pub fn shorten(&mut self, lot: u32, count: u32) -> Result<Frame, Refused> {
-        self.ask(Call::Shorten, |balanced, parent, rank, lists, work, reply| {
-            raw::shorten(balanced, parent, rank, lists, work, lot, count, reply)
+        self.stretch(Call::Shorten, self.cabinet.entries().shorten, lot, count)
+    }
+
+    fn stretch(&mut self, call: Call, make: raw::Stretch, lot: u32, count: u32) -> Result<Frame, Refused> {
+        self.ask(call, |balanced, parent, rank, lists, work, reply| {
+            make(balanced, parent, rank, lists, work, lot, count, reply)
         })
     }
 
     /// Lengthens a list of lots, each by its count, as [`lengthen`](Sheet::lengthen) called for one after another
-    /// would, in much less time. It stops at the first that is refused: those before it stand.
+    /// would; on the large cabinet in much less time, as the small one has no such call. It stops at the first that is
+    /// refused: those before it stand.
     ///
     /// ```
     /// use lineage::{Call, Frame, Refused, Rule, Sheet, Stopped, Tree};
@@ -413,10 +521,20 @@ impl Sheet {
     ///
     /// Never: the lists of a `Sheet` are a sheet, also after a list that stopped, and so have a frame.
     pub fn lengthen_each(&mut self, lengthens: &[(u32, u32)]) -> Result<Frame, Stopped> {
+        if self.cabinet == Cabinet::Small {
+            return self.lengthen_singly(lengthens);
+        }
         self.ask_each(Call::Lengthen, lengthens).inspect_err(|_| {
             // those before the refused one stand, and its reply has no frame
-            self.open().expect("a sheet");
+            self.find_frame().expect("a sheet");
         })
+    }
+
+    fn lengthen_singly(&mut self, lengthens: &[(u32, u32)]) -> Result<Frame, Stopped> {
+        for (place, &(lot, count)) in (1..).zip(lengthens) {
+            self.lengthen(lot, count).map_err(|refused| Stopped { place, refused })?;
+        }
+        Ok(self.frame)
     }
 
     /// The same, for refusals at place 0 too.
@@ -501,6 +619,11 @@ impl Sheet {
         self.rule
     }
 
+    /// The cabinet that draws it.
+    pub fn cabinet(&self) -> Cabinet {
+        self.cabinet
+    }
+
     /// The grid cells that it takes: the largest x plus 1 and the largest y plus 1.
     pub fn frame(&self) -> Frame {
         self.frame
@@ -534,7 +657,7 @@ impl Sheet {
 
 impl PartialEq for Sheet {
     fn eq(&self, other: &Sheet) -> bool {
-        // the frame follows from the places, and what the work list holds means nothing
+        // the frame follows from the places, what the work list holds means nothing, and a cabinet only sets limits
         (&self.tree, self.rule, &self.lists) == (&other.tree, other.rule, &other.lists)
     }
 }

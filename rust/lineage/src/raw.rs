@@ -206,6 +206,29 @@ calls!([
     small_shorten = lineage_small_shorten(mut, const, lot: u32, count: u32)
 ]);
 
+/// A call that makes a sheet.
+pub type Layout = fn(bool, &[u32], &[u32], Lists<&mut [u32]>, &mut [u32], &mut [i64]) -> bool;
+
+/// A call that makes the edge of a lot longer or shorter, by a count.
+pub type Stretch = fn(bool, &[u32], &[u32], Lists<&mut [u32]>, &mut [u32], u32, u32, &mut [i64]) -> bool;
+
+/// The calls that each cabinet has of its own.
+#[derive(Debug)]
+pub struct Entries {
+    /// Writes a fresh sheet.
+    pub layout: Layout,
+    /// Makes an edge longer.
+    pub lengthen: Stretch,
+    /// Makes it shorter.
+    pub shorten: Stretch,
+}
+
+/// The large cabinet's.
+pub static LARGE: Entries = Entries { layout, lengthen, shorten };
+
+/// The small cabinet's.
+pub static SMALL: Entries = Entries { layout: small_layout, lengthen: small_lengthen, shorten: small_shorten };
+
 extern "C" {
     fn lineage_stated_nodes(bytes: *const u8, bytes_length: usize) -> u32;
 }

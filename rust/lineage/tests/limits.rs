@@ -1,7 +1,8 @@
 //! The limits that the crate names are those of the library, to the last lot and place.
 
 use lineage::{
-    check, raw, Call, Frame, Refused, Rule, Sheet, Stopped, Tree, Verdict, CHECK_LOTS, MAX_LOTS, MAX_PLACE,
+    check, raw, Cabinet, Call, Frame, Refused, Rule, Sheet, Stopped, Tree, Verdict, CHECK_LOTS, MAX_LOTS, MAX_PLACE,
+    SMALL_LOTS, SMALL_PLACE,
 };
 
 /// A root with n - 1 children.
@@ -88,6 +89,66 @@ fn places() {
     assert_eq!(sheet.lengthen(1, MAX_PLACE - 1), Ok(Frame { width: MAX_PLACE + 1, height: MAX_PLACE + 1 }));
     assert_eq!(check(&pair, &[0, MAX_PLACE], &[0, 0]), Ok(Verdict::Monotone));
     assert_eq!(number(check(&pair, &[0, MAX_PLACE + 1], &[0, 0])), 15);
+}
+
+/// The small cabinet takes 1,024 lots and no more, and its replies and sheets are the large one's.
+#[test]
+fn lots_on_the_small_cabinet() {
+    for rule in Rule::ALL {
+        let tree = star(SMALL_LOTS).unwrap();
+        let mut small = Sheet::new_in(tree.clone(), rule, Cabinet::Small).unwrap();
+        let mut large = Sheet::new(tree, rule).unwrap();
+        assert_eq!((small.cabinet(), large.cabinet()), (Cabinet::Small, Cabinet::Large));
+        for lot in [0, 1, SMALL_LOTS - 1, SMALL_LOTS] {
+            assert_eq!(small.lengthen(lot, 1), large.lengthen(lot, 1));
+            assert_eq!(small.shorten(lot, 2), large.shorten(lot, 2));
+            assert_eq!(small.hold(lot), large.hold(lot));
+            assert_eq!(small.lengthen(lot, 0), large.lengthen(lot, 0));
+        }
+        assert!(small == large && small.frame() == large.frame());
+        for n in [SMALL_LOTS + 1, CHECK_LOTS, MAX_LOTS] {
+            let fresh = Sheet::new(star(n).unwrap(), rule).unwrap();
+            let refused = Sheet::new_in(fresh.tree().clone(), rule, Cabinet::Small).unwrap_err();
+            assert_eq!(refused, Refused { call: Call::Layout, number: 20, lot: 0 });
+            assert_eq!(number(taken_up(&fresh, Cabinet::Small)), 20);
+            assert_eq!(taken_up(&fresh, Cabinet::Large), Ok(fresh));
+        }
+    }
+}
+
+/// The sheet of the same lists on a cabinet.
+fn taken_up(sheet: &Sheet, cabinet: Cabinet) -> Result<Sheet, Refused> {
+    let [times, x, y, held] = [sheet.times(), sheet.x(), sheet.y(), sheet.held()].map(|list| list.to_vec());
+    Sheet::from_lists_in(sheet.tree().clone(), sheet.rule(), cabinet, times, x, y, held)
+}
+
+#[test]
+fn places_on_the_small_cabinet() {
+    let mut sheet = Sheet::new_in(star(2).unwrap(), Rule::Steep, Cabinet::Small).unwrap();
+    let edge = Frame { width: SMALL_PLACE + 1, height: SMALL_PLACE + 1 };
+    assert_eq!(sheet.lengthen(1, SMALL_PLACE), Err(Refused { call: Call::Lengthen, number: 21, lot: 1 }));
+    assert_eq!(sheet.lengthen(1, u32::MAX), Err(Refused { call: Call::Lengthen, number: 21, lot: 1 }));
+    assert_eq!(sheet.lengthen(1, SMALL_PLACE - 1), Ok(edge));
+    for cabinet in Cabinet::ALL {
+        assert_eq!(taken_up(&sheet, cabinet).map(|sheet| (sheet.cabinet(), sheet.frame())), Ok((cabinet, edge)));
+    }
+
+    // a sheet that the large cabinet has lengthened by one more
+    let mut beyond = taken_up(&sheet, Cabinet::Large).unwrap();
+    beyond.lengthen(1, 1).unwrap();
+    assert_eq!(taken_up(&beyond, Cabinet::Small), Err(Refused { call: Call::Open, number: 8, lot: 1 }));
+    assert_eq!(beyond.shorten(1, 1).map(|_| taken_up(&beyond, Cabinet::Small)), Ok(Ok(sheet)));
+}
+
+/// The small cabinet's list of lengthens is its single ones.
+#[test]
+fn lists_on_the_small_cabinet() {
+    let mut sheet = Sheet::new_in(star(3).unwrap(), Rule::Steep, Cabinet::Small).unwrap();
+    assert_eq!(sheet.lengthen_each(&[]), Ok(sheet.frame()));
+    assert_eq!(sheet.lengthen_each(&[(1, 2), (2, 1)]), Ok(Frame { width: 4, height: 5 }));
+    let refused = Refused { call: Call::Lengthen, number: 21, lot: 2 };
+    assert_eq!(sheet.lengthen_each(&[(1, 7), (2, SMALL_PLACE / 2), (1, 1)]), Err(Stopped { place: 2, refused }));
+    assert_eq!((sheet.times(), sheet.frame()), (&[1, 10, 2][..], Frame { width: 11, height: 11 }));
 }
 
 /// A file that states more lots than there can be is refused, however long it is, and no list of that length is made.
