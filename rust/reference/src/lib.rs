@@ -11,12 +11,26 @@ pub mod random;
 /// What a call refuses with: a number and a lot.
 pub type Refusal = (u32, u32);
 
-/// The largest place on a sheet.
-pub const LIMIT: i128 = 2_147_483_647;
+/// What a call takes: the most lots, and the largest place; with the numbers that refuse more.
+#[derive(Clone, Copy, Debug)]
+pub struct Limits {
+    pub lots: usize,
+    pub surplus: u32,
+    pub place: i128,
+    pub beyond: u32,
+}
+
+pub const LARGE: Limits = Limits { lots: 65_536, surplus: 2, place: 2_147_483_647, beyond: 11 };
+
+/// The small cabinet's.
+pub const SMALL: Limits = Limits { lots: 1024, surplus: 20, place: 1_048_575, beyond: 21 };
+
+/// The check's.
+const CHECK: Limits = Limits { lots: 4096, surplus: 14, place: LARGE.place, beyond: 15 };
 
 /// Numbers that refuse without a touch to the work list.
 pub fn spares_work(number: i64) -> bool {
-    matches!(number, 1 | 2 | 3 | 14 | 16 | 17 | 19)
+    matches!(number, 1 | 2 | 3 | 14 | 16 | 17 | 19 | 20)
 }
 
 /// An accepted table as child lists, in rank order.
@@ -28,34 +42,26 @@ pub struct Tree {
 /// A slope (across, up).
 pub type Slope = (i128, i128);
 
-/// Refusals 1 to 7. `others` are the lengths of the lent lists besides the parent list; `most` lots, or else `surplus`.
-pub fn accept(
-    parent: &[u32],
-    rank: &[u32],
-    others: &[usize],
-    work: usize,
-    most: usize,
-    surplus: u32,
-) -> Result<Tree, Refusal> {
-    accept_lengths(parent, rank, others, work, most, surplus)?;
+/// Refusals 1 to 7. `others` are the lengths of the lent lists besides the parent list.
+pub fn accept(limits: Limits, parent: &[u32], rank: &[u32], others: &[usize], work: usize) -> Result<Tree, Refusal> {
+    accept_lengths(limits, parent, rank, others, work)?;
     accept_lists(parent, rank)
 }
 
 /// Refusals 1 to 3.
 fn accept_lengths(
+    limits: Limits,
     parent: &[u32],
     rank: &[u32],
     others: &[usize],
     work: usize,
-    most: usize,
-    surplus: u32,
 ) -> Result<(), Refusal> {
     let n = parent.len();
     if n == 0 {
         return Err((1, 0));
     }
-    if n > most {
-        return Err((surplus, 0));
+    if n > limits.lots {
+        return Err((limits.surplus, 0));
     }
     if rank.len() != n || others.iter().any(|&l| l != n) || work != 4 * n {
         return Err((3, 0));
@@ -263,8 +269,8 @@ pub fn places(tree: &Tree, slopes: &[Slope], times: &[u32]) -> Vec<(i128, i128)>
     all
 }
 
-pub fn layout(balanced: bool, parent: &[u32], rank: &[u32], s: &mut Sheet, work: usize) -> Reply {
-    let tree = match accept(parent, rank, &s.lengths(), work, 65_536, 2) {
+pub fn layout(limits: Limits, balanced: bool, parent: &[u32], rank: &[u32], s: &mut Sheet, work: usize) -> Reply {
+    let tree = match accept(limits, parent, rank, &s.lengths(), work) {
         Ok(tree) => tree,
         Err(r) => return refused(r),
     };
@@ -279,13 +285,14 @@ pub fn layout(balanced: bool, parent: &[u32], rank: &[u32], s: &mut Sheet, work:
 
 /// Refusals 1 to 8, and otherwise the tree and its slopes.
 fn open_sheet(
+    limits: Limits,
     balanced: bool,
     parent: &[u32],
     rank: &[u32],
     s: &Sheet,
     work: usize,
 ) -> Result<(Tree, Vec<Slope>), Refusal> {
-    let tree = accept(parent, rank, &s.lengths(), work, 65_536, 2)?;
+    let tree = accept(limits, parent, rank, &s.lengths(), work)?;
     let slopes = tree.slopes(balanced);
     for (v, slope) in slopes.iter().enumerate() {
         let (time, (x, y)) = (s.times[v] as i128, s.place(v));
@@ -296,7 +303,7 @@ fn open_sheet(
             time >= 1 && x == px + time * slope.0 && y == py + time * slope.1
         };
         let most_held = if v == 0 { 0 } else { 1 };
-        if !right || x > LIMIT || y > LIMIT || s.held[v] > most_held {
+        if !right || x > limits.place || y > limits.place || s.held[v] > most_held {
             return Err((8, v as u32));
         }
     }
@@ -305,6 +312,7 @@ fn open_sheet(
 
 /// The same with 9 and 10, for calls on one lot.
 fn open(
+    limits: Limits,
     balanced: bool,
     parent: &[u32],
     rank: &[u32],
@@ -312,7 +320,7 @@ fn open(
     work: usize,
     lot: u32,
 ) -> Result<(Tree, Vec<Slope>), Refusal> {
-    let (tree, slopes) = open_sheet(balanced, parent, rank, s, work)?;
+    let (tree, slopes) = open_sheet(limits, balanced, parent, rank, s, work)?;
     if lot as usize >= tree.lots() {
         return Err((9, 0));
     }
@@ -324,6 +332,7 @@ fn open(
 
 /// The same with 22, for calls that change the length of the lot's line.
 fn open_free(
+    limits: Limits,
     balanced: bool,
     parent: &[u32],
     rank: &[u32],
@@ -331,7 +340,7 @@ fn open_free(
     work: usize,
     lot: u32,
 ) -> Result<(Tree, Vec<Slope>), Refusal> {
-    let opened = open(balanced, parent, rank, s, work, lot)?;
+    let opened = open(limits, balanced, parent, rank, s, work, lot)?;
     match s.held[lot as usize] {
         0 => Ok(opened),
         _ => Err((22, lot)),
@@ -347,6 +356,7 @@ fn shift(s: &mut Sheet, lots: &[usize], by: (i128, i128)) {
 
 #[allow(clippy::too_many_arguments)]
 pub fn lengthen(
+    limits: Limits,
     balanced: bool,
     parent: &[u32],
     rank: &[u32],
@@ -355,16 +365,16 @@ pub fn lengthen(
     lot: u32,
     count: u32,
 ) -> Reply {
-    let (tree, slopes) = match open_free(balanced, parent, rank, s, work, lot) {
+    let (tree, slopes) = match open_free(limits, balanced, parent, rank, s, work, lot) {
         Ok(opened) => opened,
         Err(r) => return refused(r),
     };
     let v = lot as usize;
     let by = (slopes[v].0 * count as i128, slopes[v].1 * count as i128);
     let lots = tree.subtree(v);
-    let beyond = |&z: &usize| s.x[z] as i128 + by.0 > LIMIT || s.y[z] as i128 + by.1 > LIMIT;
+    let beyond = |&z: &usize| s.x[z] as i128 + by.0 > limits.place || s.y[z] as i128 + by.1 > limits.place;
     if lots.iter().any(beyond) {
-        return refused((11, lot));
+        return refused((limits.beyond, lot));
     }
     shift(s, &lots, by);
     s.times[v] += count;
@@ -373,6 +383,7 @@ pub fn lengthen(
 
 #[allow(clippy::too_many_arguments)]
 pub fn shorten(
+    limits: Limits,
     balanced: bool,
     parent: &[u32],
     rank: &[u32],
@@ -381,7 +392,7 @@ pub fn shorten(
     lot: u32,
     count: u32,
 ) -> Reply {
-    let (tree, slopes) = match open_free(balanced, parent, rank, s, work, lot) {
+    let (tree, slopes) = match open_free(limits, balanced, parent, rank, s, work, lot) {
         Ok(opened) => opened,
         Err(r) => return refused(r),
     };
@@ -407,18 +418,18 @@ pub fn lengthen_each(
     counts: &[u32],
 ) -> EachReply {
     let tested = || {
-        accept_lengths(parent, rank, &s.lengths(), work, 65_536, 2)?;
+        accept_lengths(LARGE, parent, rank, &s.lengths(), work)?;
         if lots.len() != counts.len() {
             return Err((19, 0));
         }
-        open_sheet(balanced, parent, rank, s, work)
+        open_sheet(LARGE, balanced, parent, rank, s, work)
     };
     if let Err(r) = tested() {
         return at(refused(r), 0);
     }
     let mut reply = frame(s);
     for (place, (&lot, &count)) in (1..).zip(lots.iter().zip(counts)) {
-        reply = lengthen(balanced, parent, rank, s, work, lot, count);
+        reply = lengthen(LARGE, balanced, parent, rank, s, work, lot, count);
         if reply[0] == 0 {
             return at(reply, place);
         }
@@ -428,7 +439,7 @@ pub fn lengthen_each(
 
 /// Holds the line of a lot, or frees it.
 pub fn hold(balanced: bool, parent: &[u32], rank: &[u32], s: &mut Sheet, work: usize, lot: u32, hold: bool) -> Reply {
-    match open(balanced, parent, rank, s, work, lot) {
+    match open(LARGE, balanced, parent, rank, s, work, lot) {
         Ok(_) => {
             s.held[lot as usize] = hold.into();
             frame(s)
@@ -438,7 +449,7 @@ pub fn hold(balanced: bool, parent: &[u32], rank: &[u32], s: &mut Sheet, work: u
 }
 
 pub fn direction(balanced: bool, parent: &[u32], rank: &[u32], work: usize, from: u32, to: u32) -> Reply {
-    let tree = match accept(parent, rank, &[], work, 65_536, 2) {
+    let tree = match accept(LARGE, parent, rank, &[], work) {
         Ok(tree) => tree,
         Err(r) => return refused(r),
     };
@@ -473,7 +484,7 @@ pub fn heading(tree: &Tree, s: &[Slope], u: usize, v: usize) -> (i128, i128) {
 /// The least and the lot's own post number in each lot's subtree: its reply; the lists are filled where the table is
 /// accepted.
 pub fn post_numbers(parent: &[u32], rank: &[u32], first: &mut Vec<u32>, last: &mut Vec<u32>, work: usize) -> Reply {
-    let tree = match accept(parent, rank, &[first.len(), last.len()], work, 65_536, 2) {
+    let tree = match accept(LARGE, parent, rank, &[first.len(), last.len()], work) {
         Ok(tree) => tree,
         Err(r) => return refused(r),
     };
@@ -485,13 +496,13 @@ pub fn post_numbers(parent: &[u32], rank: &[u32], first: &mut Vec<u32>, last: &m
 }
 
 pub fn check(parent: &[u32], rank: &[u32], x: &[u32], y: &[u32], work: usize) -> Reply {
-    let tree = match accept(parent, rank, &[x.len(), y.len()], work, 4096, 14) {
+    let tree = match accept(CHECK, parent, rank, &[x.len(), y.len()], work) {
         Ok(tree) => tree,
         Err(r) => return refused(r),
     };
     let n = tree.lots();
-    if let Some(v) = (0..n).find(|&v| x[v] as i128 > LIMIT || y[v] as i128 > LIMIT) {
-        return refused((15, v as u32));
+    if let Some(v) = (0..n).find(|&v| x[v].max(y[v]) as i128 > CHECK.place) {
+        return refused((CHECK.beyond, v as u32));
     }
     let places: Vec<(i128, i128)> = (0..n).map(|v| (x[v] as i128, y[v] as i128)).collect();
     for u in 0..n {
@@ -539,8 +550,8 @@ pub fn read_tree(bytes: &[u8], parent: &mut Vec<u32>, rank: &mut Vec<u32>, work:
     if n == 0 {
         return refused((1, 0));
     }
-    if n > 65_536 {
-        return refused((2, 0));
+    if n > LARGE.lots {
+        return refused((LARGE.surplus, 0));
     }
     if bytes.len() != 4 + 8 * n {
         return refused((17, 0));
@@ -559,7 +570,7 @@ pub fn read_tree(bytes: &[u8], parent: &mut Vec<u32>, rank: &mut Vec<u32>, work:
 
 /// The writer: its reply; `bytes` are filled where the table is accepted and they are as many as its file has.
 pub fn write_tree(parent: &[u32], rank: &[u32], bytes: &mut Vec<u8>, work: usize) -> Reply {
-    if let Err(r) = accept(parent, rank, &[], work, 65_536, 2) {
+    if let Err(r) = accept(LARGE, parent, rank, &[], work) {
         return refused(r);
     }
     let n = parent.len();
@@ -599,11 +610,11 @@ mod tests {
     fn a_held_line_of_the_five_lots() {
         let (parent, rank) = ([0, 0, 0, 1, 1], [0, 0, 1, 0, 1]);
         let mut s = Sheet::made(|| vec![7; 5]);
-        assert_eq!(layout(false, &parent, &rank, &mut s, 20), [1, 3, 6]);
+        assert_eq!(layout(LARGE, false, &parent, &rank, &mut s, 20), [1, 3, 6]);
         assert_eq!(s.held, [0; 5]);
         assert_eq!(hold(false, &parent, &rank, &mut s, 20, 3, true), [1, 3, 6]);
-        assert_eq!(lengthen(false, &parent, &rank, &mut s, 20, 3, 0), [0, 22, 3]);
-        assert_eq!(lengthen(false, &parent, &rank, &mut s, 20, 1, 2), [1, 5, 12]);
+        assert_eq!(lengthen(LARGE, false, &parent, &rank, &mut s, 20, 3, 0), [0, 22, 3]);
+        assert_eq!(lengthen(LARGE, false, &parent, &rank, &mut s, 20, 1, 2), [1, 5, 12]);
         assert_eq!((s.times[3], s.x[3], s.y[3], &s.held[..]), (1, 4, 10, &[0, 0, 0, 1, 0][..]));
         assert_eq!(hold(false, &parent, &rank, &mut s, 20, 0, true), [0, 10, 0]);
         s.held[0] = 1;
@@ -615,7 +626,7 @@ mod tests {
     fn lists_of_lengthens_of_the_five_lots() {
         let (parent, rank) = ([0, 0, 0, 1, 1], [0, 0, 1, 0, 1]);
         let mut s = Sheet::made(|| vec![7; 5]);
-        layout(false, &parent, &rank, &mut s, 20);
+        layout(LARGE, false, &parent, &rank, &mut s, 20);
         let mut each = |rank: &[u32], lots: &[u32], counts: &[u32]| {
             let reply = lengthen_each(false, &parent, rank, &mut s, 20, lots, counts);
             (reply, s.times.clone())
@@ -625,6 +636,18 @@ mod tests {
         assert_eq!(each(&[1; 4], &[1], &[]), ([0, 3, 0, 0], vec![1; 5]));
         assert_eq!(each(&rank, &[1, 3], &[2, 1]), ([1, 6, 12, 0], vec![1, 3, 1, 2, 1]));
         assert_eq!(each(&rank, &[1, 0, 3], &[2, 1, 1]), ([0, 10, 0, 2], vec![1, 5, 1, 2, 1]));
+    }
+
+    #[test]
+    fn two_lots_on_the_small_cabinet() {
+        let pair = [0, 0];
+        let mut s = Sheet::made(|| vec![7; 2]);
+        assert_eq!(layout(SMALL, false, &pair, &pair, &mut s, 8), [1, 2, 2]);
+        assert_eq!(lengthen(SMALL, false, &pair, &pair, &mut s, 8, 1, 1_048_575), [0, 21, 1]);
+        assert_eq!(lengthen(SMALL, false, &pair, &pair, &mut s, 8, 1, 1_048_574), [1, 1_048_576, 1_048_576]);
+        assert_eq!(lengthen(LARGE, false, &pair, &pair, &mut s, 8, 1, 1), [1, 1_048_577, 1_048_577]);
+        assert_eq!(shorten(SMALL, false, &pair, &pair, &mut s, 8, 1, 1), [0, 8, 1]);
+        assert_eq!(layout(SMALL, false, &[0; 1025], &pair, &mut s, 8), [0, 20, 0]);
     }
 
     #[test]

@@ -1,6 +1,6 @@
 //! Random tables, sheets, drawings and files, from a seed.
 
-use crate::{accept_lists, places, Sheet};
+use crate::{accept_lists, places, Limits, Sheet};
 
 /// A small generator (SplitMix64).
 pub struct Random(u64);
@@ -47,7 +47,7 @@ impl Random {
     pub fn number(&mut self) -> u32 {
         match self.below(8) {
             0..=3 => self.below(12) as u32,
-            4 => self.one_of(&[0, 1, 65_535, 65_536, 0x7fff_fffe, 0x7fff_ffff, 0x8000_0000, u32::MAX]),
+            4 => self.one_of(&[0, 1, 65_535, 65_536, 0xf_ffff, 0x10_0000, 0x7fff_ffff, 0x8000_0000, u32::MAX]),
             5 => self.bits() as u32,
             _ => (self.bits() as u32) >> self.below(32),
         }
@@ -169,7 +169,7 @@ impl Random {
             return any;
         }
         let Ok(tree) = accept_lists(parent, rank) else { return any };
-        let most = self.one_of(&[1, 2, 5, 1000, 100_000_000]);
+        let most = self.one_of(&[1, 2, 5, 1000, 50_000, 100_000_000]);
         let mut times: Vec<u32> = (0..n).map(|_| 1 + self.below(most) as u32).collect();
         times[0] = 1;
         if self.once_in(20) {
@@ -211,10 +211,10 @@ impl Random {
     }
 
     /// A count for a lengthen or a shorten.
-    pub fn count(&mut self, s: &Sheet, slope: (i128, i128)) -> u32 {
+    pub fn count(&mut self, limits: Limits, s: &Sheet, slope: (i128, i128)) -> u32 {
         let room = |list: &[u32], step: i128| {
             let most = list.iter().max().copied().unwrap_or(0) as i128;
-            (crate::LIMIT - most) / step.max(1)
+            (limits.place - most) / step.max(1)
         };
         match self.below(5) {
             0 => self.number(),

@@ -1,9 +1,9 @@
 //! Demand 3 by brute force on small trees: after lists of calls every path rises along its direction, no two edges
 //! share a point but a common end, places are the sums of the calls, and the check says Monotone. A held line keeps its
 //! length until it is freed, and moves with the lots above it. A list of lengthens made in one call counts as the
-//! single calls that it tries.
+//! single calls that it tries. On both cabinets no place is beyond the cabinet's edge.
 
-use lineage::{Frame, Refused, Rule, Sheet, Stopped, Tree, Verdict};
+use lineage::{Cabinet, Frame, Refused, Rule, Sheet, Stopped, Tree, Verdict};
 use reference::random::Random;
 
 type Place = (i128, i128);
@@ -35,6 +35,7 @@ fn holds(sheet: &Sheet, slopes: &[Place], Said { added, held }: &Said) {
     let tree = sheet.tree();
     let n = tree.lots();
     assert_eq!(sheet.held(), held);
+    assert!(sheet.x().iter().chain(sheet.y()).all(|&place| place <= sheet.cabinet().max_place()));
     assert!(sheet.times().iter().zip(added).all(|(&times, &added)| i128::from(times) == added));
     let place = |v: usize| (sheet.x()[v] as i128, sheet.y()[v] as i128);
     let parent = |v: usize| tree.parents()[v] as usize;
@@ -112,7 +113,7 @@ impl Call {
 }
 
 fn any_count(random: &mut Random) -> u32 {
-    random.one_of(&[0, 1, 2, 7, 1000, 30_000_000])
+    random.one_of(&[0, 1, 2, 7, 1000, 30_000, 30_000_000])
 }
 
 /// Makes a call, and sees that a held line refuses to change its length and moves with the lots above it.
@@ -156,11 +157,11 @@ fn made_each(sheet: &mut Sheet, slopes: &[Place], said: &mut Said, lengthens: &[
     assert!(*sheet == singly && sheet.frame() == singly.frame(), "{lengthens:?} are not the single calls");
 }
 
-/// A list of calls from the fresh sheet, under both rules; how many lines were held and moved.
+/// A list of calls from the fresh sheet, under both rules, on either cabinet; how many lines were held and moved.
 fn every_list(random: &mut Random, tree: &Tree, calls: usize) -> usize {
     let mut moved = 0;
     for rule in Rule::ALL {
-        let mut sheet = Sheet::new(tree.clone(), rule).unwrap();
+        let mut sheet = Sheet::new_in(tree.clone(), rule, random.one_of(&Cabinet::ALL)).unwrap();
         let n = tree.lots();
         let slopes = reference::accept_lists(tree.parents(), tree.ranks()).unwrap().slopes(rule == Rule::Balanced);
         let mut said = Said { added: vec![1; n], held: vec![0; n] };

@@ -4,7 +4,7 @@
 
 use lineage::raw;
 use reference::random::Random;
-use reference::{spares_work, Reply, Sheet};
+use reference::{spares_work, Limits, Reply, Sheet, LARGE, SMALL};
 
 fn calls() -> usize {
     std::env::var("LINEAGE_CALLS").map_or(200_000, |s| s.parse().expect("LINEAGE_CALLS"))
@@ -24,6 +24,15 @@ fn lend_sheet(random: &mut Random, s: &mut Sheet) {
 fn lists(s: &mut Sheet) -> raw::Lists<&mut [u32]> {
     raw::Lists { times: &mut s.times, x: &mut s.x, y: &mut s.y, held: &mut s.held }
 }
+
+/// A cabinet: its limits, and the calls that it has of its own.
+struct Cabinet {
+    limits: Limits,
+    calls: &'static raw::Entries,
+}
+
+static LARGE_ONE: Cabinet = Cabinet { limits: LARGE, calls: &raw::LARGE };
+static SMALL_ONE: Cabinet = Cabinet { limits: SMALL, calls: &raw::SMALL };
 
 /// What every call is lent besides its lists, a work list and a reply of N numbers, and what they held before.
 struct Lent<const N: usize> {
@@ -94,9 +103,9 @@ impl Tally {
     }
 }
 
-#[test]
-fn layout() {
-    let mut random = Random::from_environment("layout");
+/// Layouts of random tables on a cabinet.
+fn layouts(test: &str, cabinet: &Cabinet) {
+    let mut random = Random::from_environment(test);
     let mut tally = Tally::default();
     for i in 0..calls() {
         let (parent, mut rank) = random.any_table(200);
@@ -106,15 +115,26 @@ fn layout() {
         lend_sheet(&mut random, &mut mine);
         lend(&mut random, &mut rank);
         let (mut theirs, mut lent) = (mine.clone(), Lent::new(&mut random, n));
-        let called = raw::layout(balanced, &parent, &rank, lists(&mut theirs), &mut lent.work, &mut lent.reply);
-        let right = lent.right(|work| reference::layout(balanced, &parent, &rank, &mut mine, work));
-        let said = format!("call {i}: layout({balanced}, {parent:?}, {rank:?})");
+        let (s, work, reply) = (lists(&mut theirs), &mut lent.work[..], &mut lent.reply[..]);
+        let called = (cabinet.calls.layout)(balanced, &parent, &rank, s, work, reply);
+        let right = lent.right(|work| reference::layout(cabinet.limits, balanced, &parent, &rank, &mut mine, work));
+        let said = format!("call {i}: {test}({balanced}, {parent:?}, {rank:?})");
         lent.compare(&said, called, right, spares_work);
         assert_eq!(mine, theirs, "{said}");
         tally.note(right);
     }
-    tally.print("layout");
+    tally.print(test);
     tally.has_all(&[1, 3, 4, 5, 6, 7]);
+}
+
+#[test]
+fn layout() {
+    layouts("layout", &LARGE_ONE);
+}
+
+#[test]
+fn small_layout() {
+    layouts("small_layout", &SMALL_ONE);
 }
 
 /// A call on one lot of a sheet.
@@ -125,9 +145,11 @@ enum Move {
     Hold(bool),
 }
 
-/// A call on both, compared.
+/// A call on both, compared. Hold is the large cabinet's.
+#[allow(clippy::too_many_arguments)]
 fn moved(
     random: &mut Random,
+    cabinet: &Cabinet,
     balanced: bool,
     parent: &[u32],
     rank: &[u32],
@@ -136,16 +158,17 @@ fn moved(
     by: Move,
 ) -> Reply {
     let (mut theirs, mut lent) = (s.clone(), Lent::new(random, parent.len()));
-    let said = format!("{by:?} of {lot}, balanced {balanced}, {parent:?}, {rank:?}, {s:?}");
+    let limits = cabinet.limits;
+    let said = format!("{by:?} of {lot}, balanced {balanced}, {parent:?}, {rank:?}, {s:?}, {limits:?}");
     let (lists, work, reply) = (lists(&mut theirs), &mut lent.work[..], &mut lent.reply[..]);
     let called = match by {
-        Move::Lengthen(count) => raw::lengthen(balanced, parent, rank, lists, work, lot, count, reply),
-        Move::Shorten(count) => raw::shorten(balanced, parent, rank, lists, work, lot, count, reply),
+        Move::Lengthen(count) => (cabinet.calls.lengthen)(balanced, parent, rank, lists, work, lot, count, reply),
+        Move::Shorten(count) => (cabinet.calls.shorten)(balanced, parent, rank, lists, work, lot, count, reply),
         Move::Hold(hold) => raw::hold(balanced, parent, rank, lists, work, lot, hold, reply),
     };
     let right = lent.right(|work| match by {
-        Move::Lengthen(count) => reference::lengthen(balanced, parent, rank, s, work, lot, count),
-        Move::Shorten(count) => reference::shorten(balanced, parent, rank, s, work, lot, count),
+        Move::Lengthen(count) => reference::lengthen(limits, balanced, parent, rank, s, work, lot, count),
+        Move::Shorten(count) => reference::shorten(limits, balanced, parent, rank, s, work, lot, count),
         Move::Hold(hold) => reference::hold(balanced, parent, rank, s, work, lot, hold),
     });
     lent.compare(&said, called, right, spares_work);
@@ -170,10 +193,10 @@ fn slope_of(balanced: bool, parent: &[u32], rank: &[u32], lot: u32) -> (i128, i1
 }
 
 /// Calls on random sheets, of the kind that `kind` makes of a count and the lot's times. Each refuses with 1 to 10, but
-/// for 2, which asks for more lots than these have.
-fn moves(test: &str, last: &[i64], kind: fn(&mut Random, u32, u32) -> Move) {
+/// for 2 or 20, which asks for more lots than these have.
+fn moves(test: &str, cabinet: &Cabinet, last: &[i64], kind: fn(&mut Random, u32, u32) -> Move) {
     let mut random = Random::from_environment(test);
-    let (mut tally, mut by_held) = (Tally::default(), 0);
+    let (mut tally, mut by_held, mut by_edge) = (Tally::default(), 0, 0);
     for _ in 0..calls() {
         let (parent, mut rank) = random.any_table(60);
         let balanced = random.once_in(2);
@@ -182,41 +205,107 @@ fn moves(test: &str, last: &[i64], kind: fn(&mut Random, u32, u32) -> Move) {
         lend(&mut random, &mut rank);
         let lot = lot_of(&mut random, parent.len());
         let slope = slope_of(balanced, &parent, &rank, lot);
-        let count = random.count(&s, slope);
+        let count = random.count(cabinet.limits, &s, slope);
         let times = s.times.get(lot as usize).copied().unwrap_or(1);
         let by = kind(&mut random, count, times);
-        let right = moved(&mut random, balanced, &parent, &rank, &mut s, lot, by);
+        let right = moved(&mut random, cabinet, balanced, &parent, &rank, &mut s, lot, by);
         tally.note(right);
         if right[..2] == [0, 8] {
-            // 8 left the lists as they were, so they tell whether held alone is wrong
-            s.held.fill(0);
-            let freed = reference::hold(balanced, &parent, &rank, &mut s, 4 * parent.len(), lot, true);
-            by_held += usize::from(freed[..2] != [0, 8]);
+            // 8 left the lists as they were, so they tell whether held alone is wrong, or the edge alone is passed
+            let mut freed = Sheet { held: vec![0; s.held.len()], ..s.clone() };
+            let sheet = |s: &mut Sheet, limits| {
+                let right = reference::shorten(limits, balanced, &parent, &rank, s, 4 * parent.len(), lot, 0);
+                right[..2] != [0, 8]
+            };
+            by_held += usize::from(sheet(&mut freed, cabinet.limits));
+            by_edge += usize::from(sheet(&mut s, LARGE));
         }
     }
     tally.print(test);
     tally.has_all(&[&[1, 3, 4, 5, 6, 7, 8, 9, 10], last].concat());
-    println!("{test}: of the refusals 8 there are {by_held} where held alone is wrong");
+    println!("{test}: of the refusals 8 there are {by_held} for held alone, and {by_edge} for the small edge alone");
     assert!(by_held > 0 || calls() < 10_000, "8 is never by held alone");
+    let has_edge = cabinet.limits.place < LARGE.place;
+    assert!(by_edge > 0 || !has_edge || calls() < 10_000, "8 is never by the small edge alone");
+}
+
+/// Often by about as much as there is.
+fn any_shorten(random: &mut Random, count: u32, times: u32) -> Move {
+    let about = times.wrapping_add(random.below(3) as u32).wrapping_sub(2);
+    Move::Shorten(if random.once_in(2) { about } else { count })
 }
 
 #[test]
 fn lengthen() {
-    moves("lengthen", &[22, 11], |_, count, _| Move::Lengthen(count));
+    moves("lengthen", &LARGE_ONE, &[22, 11], |_, count, _| Move::Lengthen(count));
 }
 
-/// Often by about as much as there is.
+#[test]
+fn small_lengthen() {
+    moves("small_lengthen", &SMALL_ONE, &[22, 21], |_, count, _| Move::Lengthen(count));
+}
+
 #[test]
 fn shorten() {
-    moves("shorten", &[22, 12], |random, count, times| {
-        let about = times.wrapping_add(random.below(3) as u32).wrapping_sub(2);
-        Move::Shorten(if random.once_in(2) { about } else { count })
-    });
+    moves("shorten", &LARGE_ONE, &[22, 12], any_shorten);
+}
+
+#[test]
+fn small_shorten() {
+    moves("small_shorten", &SMALL_ONE, &[22, 12], any_shorten);
 }
 
 #[test]
 fn hold() {
-    moves("hold", &[], |random, _, _| Move::Hold(random.once_in(2)));
+    moves("hold", &LARGE_ONE, &[], |random, _, _| Move::Hold(random.once_in(2)));
+}
+
+/// The small cabinet replies and leaves what the large one does, or refuses with 21 where that one leaves a place beyond
+/// the small edge or refuses with 11.
+#[test]
+fn small_as_large() {
+    let mut random = Random::from_environment("small_as_large");
+    let (mut same, mut beyond) = (Tally::default(), [0; 2]);
+    for _ in 0..calls() {
+        let (parent, mut rank) = random.any_table(60);
+        let balanced = random.once_in(2);
+        let s = random.sheet(balanced, &parent, &rank);
+        lend(&mut random, &mut rank);
+        let far = |s: &Sheet| s.x.iter().chain(&s.y).any(|&place| i128::from(place) > SMALL.place);
+        if far(&s) {
+            continue;
+        }
+        let lot = lot_of(&mut random, parent.len());
+        let limits = random.one_of(&[LARGE, SMALL]);
+        let count = random.count(limits, &s, slope_of(balanced, &parent, &rank, lot));
+        let kind = random.below(4);
+        let made = |cabinet: &Cabinet| {
+            let (mut s, mut work, mut reply) = (s.clone(), vec![0; 4 * parent.len()], [0; 3]);
+            let l = lists(&mut s);
+            match kind {
+                0 => (cabinet.calls.layout)(balanced, &parent, &rank, l, &mut work, &mut reply),
+                1 => (cabinet.calls.shorten)(balanced, &parent, &rank, l, &mut work, lot, count, &mut reply),
+                _ => (cabinet.calls.lengthen)(balanced, &parent, &rank, l, &mut work, lot, count, &mut reply),
+            };
+            (reply, s)
+        };
+        let (small, large) = (made(&SMALL_ONE), made(&LARGE_ONE));
+        if small.0[..2] == [0, 21] {
+            let refused = large.0[..2] == [0, 11];
+            assert!(small.1 == s && (refused || far(&large.1)), "{small:?} {large:?}");
+            beyond[usize::from(refused)] += 1;
+        } else {
+            assert_eq!(small, large);
+            same.note(small.0);
+        }
+    }
+    same.print("small_as_large");
+    same.has_all(&[1, 3, 4, 5, 6, 7, 8, 9, 10, 22, 12]);
+    println!(
+        "small_as_large: 21 where the large cabinet accepts: {}, where it refuses with 11: {}",
+        beyond[0], beyond[1]
+    );
+    assert!(beyond.iter().all(|&count| count > 0) || calls() < 10_000);
 }
 
 /// A list of lots and one of counts, often longer than the table: most of the lots have lines, some stand there twice,
@@ -227,7 +316,7 @@ fn lengthens(random: &mut Random, balanced: bool, parent: &[u32], rank: &[u32], 
     for _ in 0..random.below(9) {
         let lot = if random.once_in(5) { lot_of(random, n) } else { 1 + random.below(n.max(2) - 1) as u32 };
         lots.push(lot);
-        counts.push(random.count(s, slope_of(balanced, parent, rank, lot)));
+        counts.push(random.count(LARGE, s, slope_of(balanced, parent, rank, lot)));
     }
     if random.once_in(20) {
         let list = if random.once_in(2) { &mut lots } else { &mut counts };
@@ -275,21 +364,22 @@ fn lists_of_calls() {
         let n = random.lots(30);
         let (parent, rank) = random.table(n);
         let balanced = random.once_in(2);
+        let cabinet = random.one_of(&[&LARGE_ONE, &SMALL_ONE]);
         let mut s = Sheet::made(|| vec![0; n]);
-        reference::layout(balanced, &parent, &rank, &mut s, 4 * n);
+        reference::layout(cabinet.limits, balanced, &parent, &rank, &mut s, 4 * n);
         let tree = reference::accept_lists(&parent, &rank).unwrap();
         let slopes = tree.slopes(balanced);
         let (mut added, mut held) = (vec![1i128; n], vec![0; n]);
         for _ in 0..random.below(40) {
             let lot = lot_of(&mut random, n);
             let slope = slopes.get(lot as usize).copied().unwrap_or((1, 1));
-            let count = random.count(&s, slope);
+            let count = random.count(cabinet.limits, &s, slope);
             let by = match random.below(7) {
                 0..=2 => Move::Lengthen(count),
                 3..=4 => Move::Shorten(count),
                 kind => Move::Hold(kind == 5),
             };
-            let right = moved(&mut random, balanced, &parent, &rank, &mut s, lot, by);
+            let right = moved(&mut random, cabinet, balanced, &parent, &rank, &mut s, lot, by);
             if right[0] == 1 {
                 match by {
                     Move::Lengthen(count) => added[lot as usize] += i128::from(count),
@@ -301,6 +391,7 @@ fn lists_of_calls() {
             made += 1;
         }
         assert_eq!(s.held, held);
+        assert!(s.x.iter().chain(&s.y).all(|&place| i128::from(place) <= cabinet.limits.place));
         for v in 0..n {
             let way = tree.way_up(v);
             let sum =
@@ -309,7 +400,7 @@ fn lists_of_calls() {
         }
     }
     tally.print("lists_of_calls");
-    tally.has_all(&[9, 10, 22, 11, 12]);
+    tally.has_all(&[9, 10, 22, 11, 21, 12]);
 }
 
 #[test]
@@ -481,20 +572,30 @@ fn shaped(shape: &str, n: usize) -> (Vec<u32>, Vec<u32>) {
     std::iter::once((0, 0)).chain(other).unzip()
 }
 
-/// Layout of n lots under both rules, the last lot's line held, a list of lengthens that stops there, and the direction
-/// between two lots that are far apart.
-fn limits_of_lots(shape: &str, n: usize) {
+/// Layout of n lots under both rules, the last but one lengthened and shortened again, the last lot's line held, a list
+/// of lengthens that stops there, and the direction between two lots that are far apart.
+fn limits_of_lots(cabinet: &Cabinet, shape: &str, n: usize) {
     let (parent, rank) = shaped(shape, n);
+    let limits = cabinet.limits;
     for balanced in [false, true] {
         let mut mine = Sheet::made(|| vec![9; n]);
         let mut theirs = mine.clone();
         let (mut w, mut reply) = (vec![3; 4 * n], [0; 3]);
-        raw::layout(balanced, &parent, &rank, lists(&mut theirs), &mut w, &mut reply);
-        let right = reference::layout(balanced, &parent, &rank, &mut mine, 4 * n);
+        (cabinet.calls.layout)(balanced, &parent, &rank, lists(&mut theirs), &mut w, &mut reply);
+        let right = reference::layout(limits, balanced, &parent, &rank, &mut mine, 4 * n);
         assert_eq!(reply, right, "{shape} {n} {balanced}");
         assert!(mine == theirs, "{shape} {n} {balanced}");
-        assert_eq!(right[0], (n <= 65_536) as i64);
+        let accepted = n <= limits.lots;
+        assert_eq!(right[..2] == [0, limits.surplus.into()], !accepted);
         let last = n as u32 - 1;
+        (cabinet.calls.lengthen)(balanced, &parent, &rank, lists(&mut theirs), &mut w, last - 1, 2, &mut reply);
+        let right = reference::lengthen(limits, balanced, &parent, &rank, &mut mine, 4 * n, last - 1, 2);
+        assert_eq!((reply, right[0]), (right, accepted.into()), "{shape} {n} {balanced}");
+        assert!(mine == theirs, "{shape} {n} {balanced}");
+        (cabinet.calls.shorten)(balanced, &parent, &rank, lists(&mut theirs), &mut w, last - 1, 2, &mut reply);
+        let right = reference::shorten(limits, balanced, &parent, &rank, &mut mine, 4 * n, last - 1, 2);
+        assert_eq!((reply, right[0]), (right, accepted.into()), "{shape} {n} {balanced}");
+        assert!(mine == theirs, "{shape} {n} {balanced}");
         raw::hold(balanced, &parent, &rank, lists(&mut theirs), &mut w, last, true, &mut reply);
         let right = reference::hold(balanced, &parent, &rank, &mut mine, 4 * n, last, true);
         assert_eq!(reply, right, "{shape} {n} {balanced}");
@@ -504,7 +605,7 @@ fn limits_of_lots(shape: &str, n: usize) {
         let right = reference::lengthen_each(balanced, &parent, &rank, &mut mine, 4 * n, &lots, &[1; 3]);
         assert_eq!(each, right, "{shape} {n} {balanced}");
         assert!(mine == theirs, "{shape} {n} {balanced}");
-        assert_eq!(right[3], if n <= 65_536 { 2 } else { 0 });
+        assert_eq!(right[3], if accepted { 2 } else { 0 });
         let far = (n / 2) as u32;
         raw::direction(balanced, &parent, &rank, &mut w, 1, far, &mut reply);
         if shape != "chain" {
@@ -526,13 +627,20 @@ fn limits_of_numbers(shape: &str, n: usize) {
     assert_eq!(right[0], (n <= 65_536) as i64);
 }
 
-/// 65,536 and 65,537 lots, of each shape. The plain version walks by recursion, so it has a stack of its own.
+/// 65,536 and 65,537 lots, of each shape, and 1,024 and 1,025 on the small cabinet. The plain version walks by
+/// recursion, so it has a stack of its own.
 #[test]
 fn lots_at_the_limits() {
     let large = std::thread::Builder::new().stack_size(1 << 30).spawn(|| {
         for (shape, n) in [("chain", 65_536), ("star", 65_536), ("binary", 65_536), ("chain", 65_537)] {
-            limits_of_lots(shape, n);
+            limits_of_lots(&LARGE_ONE, shape, n);
         }
+        for shape in ["chain", "star", "binary"] {
+            for n in [1024, 1025] {
+                limits_of_lots(&SMALL_ONE, shape, n);
+            }
+        }
+        limits_of_lots(&SMALL_ONE, "star", 65_537);
         for (shape, n) in [("star", 65_536), ("binary", 65_536), ("chain", 65_537)] {
             limits_of_numbers(shape, n);
         }
