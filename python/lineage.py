@@ -33,12 +33,14 @@ from ctypes import c_bool, c_int64, c_size_t, c_uint8, c_uint32
 from pathlib import Path
 from typing import Any, Iterable, NamedTuple, Optional, Union
 
-__all__ = ["CHECK_LOTS", "MAX_LOTS", "MAX_PLACE", "GROUNDS", "Direction", "Frame", "Ground", "PostNumbers", "Refused",
-           "Sheet", "Stopped", "Tree", "Verdict", "check", "direction"]
+__all__ = ["CHECK_LOTS", "MAX_LOTS", "MAX_PLACE", "SMALL_LOTS", "SMALL_PLACE", "GROUNDS", "Direction", "Frame",
+           "Ground", "PostNumbers", "Refused", "Sheet", "Stopped", "Tree", "Verdict", "check", "direction"]
 
 MAX_LOTS = 65_536  #: the most lots of a tree
 CHECK_LOTS = 4_096  #: the most lots of a drawing that the check takes
 MAX_PLACE = 2_147_483_647  #: the largest x and y on a sheet
+SMALL_LOTS = 1_024  #: the most lots of a tree on the small cabinet
+SMALL_PLACE = 1_048_575  #: the largest x and y on a sheet of the small cabinet
 
 # ----------------------------------------------------------------------------------------------------------------------
 # Refusals
@@ -119,6 +121,9 @@ _TAKES = {
     "shorten": [*_ON_SHEET, c_uint32, c_uint32],
     "lengthen_each": [*_ON_SHEET, *_lists(2)],
     "hold": [*_ON_SHEET, c_uint32, c_bool],
+    "small_layout": _ON_SHEET,
+    "small_lengthen": [*_ON_SHEET, c_uint32, c_uint32],
+    "small_shorten": [*_ON_SHEET, c_uint32, c_uint32],
     "direction": [c_bool, *_lists(3), c_uint32, c_uint32],
     "post_numbers": _lists(5),
     "check": _lists(5),
@@ -169,7 +174,7 @@ def _ask(call: str, *arguments: _Lent) -> tuple[int, int, int]:
     getattr(_LIBRARY, f"lineage_{call}")(*_lend((*arguments, reply)))
     case, a, b, *place = reply
     if case == 0:
-        raise Stopped(place[0], "lengthen", a, b) if any(place) else Refused(call, a, b)
+        raise Stopped(place[0], "lengthen", a, b) if any(place) else Refused(call.removeprefix("small_"), a, b)
     return case, a, b
 
 
@@ -211,6 +216,12 @@ def _balanced(rule: str) -> bool:
     if rule not in ("steep", "balanced"):
         raise ValueError(f"{rule!r} is not a rule: 'steep' or 'balanced'")
     return rule == "balanced"
+
+
+def _small(cabinet: str) -> bool:
+    if cabinet not in ("large", "small"):
+        raise ValueError(f"{cabinet!r} is not a cabinet: 'large' or 'small'")
+    return cabinet == "small"
 
 
 # ----------------------------------------------------------------------------------------------------------------------
@@ -361,27 +372,54 @@ def direction(tree: Tree, rule: str, start: int, end: int) -> Direction:
 
 
 class Sheet:
-    """A tree drawn under a rule, 'steep' or 'balanced'. Two sheets are equal where tree, rule, times, places and held
-    lines are."""
+    """A tree drawn under a rule, 'steep' or 'balanced', on a cabinet, 'large' or 'small'. Within its limits the small
+    one answers what the large one answers. Two sheets are equal where tree, rule, times, places and held lines are.
 
-    def __init__(self, tree: Tree, rule: str) -> None:
+    >>> sheet = Sheet(Tree([0, 0], [0, 0]), "steep", "small")
+    >>> sheet.lengthen(1, SMALL_PLACE - 1)
+    Frame(width=1048576, height=1048576)
+    >>> sheet.lengthen(1, 1)
+    Traceback (most recent call last):
+    lineage.Refused: lengthen refused (21) at lot 1: some place would be above 1,048,575
+    """
+
+    def __init__(self, tree: Tree, rule: str, cabinet: str = "large") -> None:
         """The fresh sheet, with every times 1 and no line held."""
-        self._open(tree, rule, [_zeros(len(tree)) for _ in _SHEET])
-        self._ask("layout")
+        self._open(tree, rule, cabinet, [_zeros(len(tree)) for _ in _SHEET])
+        self._ask(self._own("layout"))
 
     @classmethod
     def from_lists(cls, tree: Tree, rule: str, times: Iterable[int], x: Iterable[int], y: Iterable[int],
-                   held: Iterable[int]) -> Sheet:
+                   held: Iterable[int], cabinet: str = "large") -> Sheet:
         """The sheet that these lists are, as one that was saved; refused with 8 where they are none."""
         sheet = cls.__new__(cls)
-        sheet._open(tree, rule, [_numbers(values) for values in (times, x, y, held)])
-        sheet.lengthen_each([])  # changes nothing, and tests the lists
+        sheet._open(tree, rule, cabinet, [_numbers(values) for values in (times, x, y, held)])
+        if sheet._small:
+            sheet._test()
+        sheet._find_frame()
         return sheet
 
-    def _open(self, tree: Tree, rule: str, lists: list[_List]) -> None:
-        self._balanced = _balanced(rule)
+    def _open(self, tree: Tree, rule: str, cabinet: str, lists: list[_List]) -> None:
+        self._balanced, self._small = _balanced(rule), _small(cabinet)
         self._tree, self._lists = tree, dict(zip(_SHEET, lists))
         self._work = _zeros(4 * len(tree))
+
+    def _own(self, call: str) -> str:
+        """A call that each cabinet has of its own."""
+        return f"small_{call}" if self._small else call
+
+    def _test(self) -> None:
+        """Refused where the lists are no sheet of the cabinet: it is asked for a lot that there is not, and says so,
+        with 9, only of a sheet."""
+        try:
+            self.lengthen(len(self._tree), 0)
+        except Refused as refused:
+            if refused.number != 9:
+                raise
+
+    def _find_frame(self) -> None:
+        """Asks the large cabinet for no lengthen at all: the lists are tested, and the frame becomes what they say."""
+        self._ask("lengthen_each", *_pairs([]))
 
     def _ask(self, call: str, *arguments: _Lent) -> Frame:
         """Makes a call, which is lent the sheet; the frame that it answers is the sheet's then."""
@@ -392,15 +430,16 @@ class Sheet:
 
     def lengthen(self, lot: int, count: int) -> Frame:
         """Makes the edge of a lot longer by count times its slope; its whole subtree moves along, held lines too."""
-        return self._ask("lengthen", _number(lot), _number(count))
+        return self._ask(self._own("lengthen"), _number(lot), _number(count))
 
     def shorten(self, lot: int, count: int) -> Frame:
         """Makes it shorter again, to at least one times its slope."""
-        return self._ask("shorten", _number(lot), _number(count))
+        return self._ask(self._own("shorten"), _number(lot), _number(count))
 
     def lengthen_each(self, lengthens: Iterable[tuple[int, int]]) -> Frame:
-        """Lengthens a list of lots, each by its count, as lengthen called for one after another would, in much less
-        time. It stops at the first that is refused: those before it stand.
+        """Lengthens a list of lots, each by its count, as lengthen called for one after another would; on the large
+        cabinet in much less time, as the small one has no such call. It stops at the first that is refused: those
+        before it stand.
 
         >>> sheet = Sheet(Tree([0, 0, 0, 1, 1], [0, 0, 1, 0, 1]), "steep")
         >>> sheet.lengthen_each([(1, 2), (3, 1)])
@@ -411,11 +450,22 @@ class Sheet:
         >>> sheet.times, sheet.frame
         ([1, 3, 1, 6, 1], Frame(width=10, height=16))
         """
+        lots, counts = _pairs(lengthens)
+        if self._small:
+            return self._lengthen_singly(lots, counts)
         try:
-            return self._ask("lengthen_each", *_pairs(lengthens))
+            return self._ask("lengthen_each", lots, counts)
         except Stopped:
-            self.lengthen_each([])  # a refusal has no frame, and that of those which stand may be another
+            self._find_frame()  # a refusal has no frame, and that of those which stand may be another
             raise
+
+    def _lengthen_singly(self, lots: _List, counts: _List) -> Frame:
+        for place, (lot, count) in enumerate(zip(lots, counts), 1):
+            try:
+                self.lengthen(lot, count)
+            except Refused as refused:
+                raise Stopped(place, refused.call, refused.number, refused.lot) from None
+        return self._frame
 
     def hold(self, lot: int) -> Frame:
         """Holds the line of a lot: it keeps its length until it is freed, and still moves with the lots above it.
@@ -456,6 +506,11 @@ class Sheet:
         return "balanced" if self._balanced else "steep"
 
     @property
+    def cabinet(self) -> str:
+        """The cabinet that draws it."""
+        return "small" if self._small else "large"
+
+    @property
     def frame(self) -> Frame:
         """The grid cells that it takes: the largest x plus 1 and the largest y plus 1."""
         return self._frame
@@ -494,4 +549,4 @@ class Sheet:
         return self._tree, self.rule, *map(list, self._lists.values())
 
     def __repr__(self) -> str:
-        return f"Sheet.from_lists({', '.join(map(repr, self._drawn()))})"
+        return f"Sheet.from_lists({', '.join(map(repr, (*self._drawn(), self.cabinet)))})"

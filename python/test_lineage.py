@@ -25,6 +25,7 @@ from lineage import Refused, Sheet, Stopped, Tree  # noqa: E402
 SEED = int(os.environ.get("LINEAGE_SEED") or time.time_ns())
 FIVE = [0, 0, 0, 1, 1], [0, 0, 1, 0, 1]
 RULES = "steep", "balanced"
+CABINETS = {"large": cases.LARGE, "small": cases.SMALL}
 
 
 def load_tests(loader, tests, pattern):
@@ -69,8 +70,9 @@ class BesidePython(unittest.TestCase):
         seen = set()
         for _ in range(300):
             lists = random_tree(self.draw)
-            rule = self.draw.randrange(2)
-            sheet, plain = Sheet(Tree(*lists), RULES[rule]), cases.Sheet(cases.Tree(*lists), rule)
+            rule, cabinet = self.draw.randrange(2), self.draw.choice(list(CABINETS))
+            sheet = Sheet(Tree(*lists), RULES[rule], cabinet)
+            plain = cases.Sheet(cases.Tree(*lists), rule, CABINETS[cabinet])
             self.same(sheet, plain)
             for _ in range(15):
                 call = self.draw.choice(["lengthen", "lengthen", "shorten", "shorten", "hold", "free"])
@@ -85,20 +87,21 @@ class BesidePython(unittest.TestCase):
                 seen.add(reply[1] if reply[0] == 0 else call)
             self.assertTrue(sheet.check())
             lists = sheet.times, sheet.x, sheet.y, sheet.held
-            self.assertEqual(Sheet.from_lists(sheet.tree, sheet.rule, *lists), sheet)
-            self.assertEqual(eval(repr(sheet), {"Sheet": Sheet, "Tree": Tree}), sheet)
-        self.assertEqual(seen, {"lengthen", "shorten", "hold", "free", 9, 10, 11, 12, 22})
+            for again in Sheet.from_lists(sheet.tree, sheet.rule, *lists, cabinet), eval(repr(sheet), vars(lineage)):
+                self.assertEqual((again, again.cabinet, again.frame), (sheet, cabinet, sheet.frame))
+        self.assertEqual(seen, {"lengthen", "shorten", "hold", "free", 9, 10, 11, 12, 21, 22})
 
     def lengthen(self, n):
         """A lot, or now and then none, and a count."""
-        return self.draw.randrange(n + 1), self.draw.choice([0, 1, 2, 5, 1000, 2**31, 2**32 - 1])
+        return self.draw.randrange(n + 1), self.draw.choice([0, 1, 2, 5, 1000, 2**17, 2**31, 2**32 - 1])
 
     def test_lists_of_lengthens(self):
         places = set()
         for _ in range(600):
             lists = random_tree(self.draw)
-            rule, n = self.draw.randrange(2), len(lists[0])
-            sheet, plain = Sheet(Tree(*lists), RULES[rule]), cases.Sheet(cases.Tree(*lists), rule)
+            rule, n, cabinet = self.draw.randrange(2), len(lists[0]), self.draw.choice(list(CABINETS))
+            sheet = Sheet(Tree(*lists), RULES[rule], cabinet)
+            plain = cases.Sheet(cases.Tree(*lists), rule, CABINETS[cabinet])
             if n > 1:
                 lot = self.draw.randrange(1, n)
                 sheet.hold(lot)
@@ -228,6 +231,25 @@ class Refusals(unittest.TestCase):
             self.assertEqual((type(stopped), stopped.place, stopped.call), (Stopped, 3, "lengthen"))
             self.assertEqual((sheet.times[3], sheet.frame.width), (before + 1, sheet.x[3] + 1))
 
+    def test_the_small_cabinet(self):
+        star = [Tree([0] * n, [0, *range(n - 1)]) for n in (1024, 1025, 65_536)]
+        for rule in RULES:
+            self.assertEqual(Sheet(star[0], rule, "small"), Sheet(star[0], rule))
+            for tree in star[1:]:
+                fresh = Sheet(tree, rule)
+                self.refused(20, 0, Sheet, tree, rule, "small")
+                self.refused(20, 0, Sheet.from_lists, tree, rule, fresh.times, fresh.x, fresh.y, fresh.held, "small")
+        pair, most = Tree([0, 0], [0, 0]), lineage.SMALL_PLACE
+        sheet = Sheet(pair, "steep", "small")
+        self.assertEqual(self.refused(21, 1, sheet.lengthen, 1, most).call, "lengthen")
+        self.assertEqual(sheet.lengthen(1, most - 1), (most + 1, most + 1))
+        stopped = self.refused(21, 1, sheet.lengthen_each, [(1, 0), (1, 1), (1, 0)])
+        self.assertEqual((type(stopped), stopped.place, sheet.frame), (Stopped, 2, (most + 1, most + 1)))
+        large = Sheet.from_lists(pair, "steep", sheet.times, sheet.x, sheet.y, sheet.held)
+        self.assertEqual((large, large.cabinet, sheet.cabinet), (sheet, "large", "small"))
+        large.lengthen(1, 1)
+        self.refused(8, 1, Sheet.from_lists, pair, "steep", large.times, large.x, large.y, large.held, "small")
+
     def test_held_lines(self):
         tree = Tree(*FIVE)
         sheet, fresh = Sheet(tree, "steep"), Sheet(tree, "steep")
@@ -259,10 +281,10 @@ class Refusals(unittest.TestCase):
 
     def test_limits_are_the_header_s(self):
         header = (ROOT / "include/lineage.h").read_text()
-        for name in "MAX_LOTS", "CHECK_LOTS", "MAX_PLACE":
+        for name in "MAX_LOTS", "CHECK_LOTS", "MAX_PLACE", "SMALL_LOTS", "SMALL_PLACE":
             (given,) = re.findall(rf"#define LINEAGE_{name} (\d+)", header)
             self.assertEqual(int(given), getattr(lineage, name))
-        self.assertEqual(list(lineage.GROUNDS), [*(n for n in range(1, 18) if n != 13), 19, 22])
+        self.assertEqual(list(lineage.GROUNDS), [*(n for n in range(1, 18) if n != 13), 19, 20, 21, 22])
 
 
 class Finding(unittest.TestCase):
@@ -350,6 +372,14 @@ class WrongValues(unittest.TestCase):
         for wrong in "Steep", True, None:
             self.assertRaises(ValueError, Sheet, tree, wrong)
             self.assertRaises(ValueError, lineage.direction, tree, wrong, 1, 2)
+
+    def test_cabinets(self):
+        lineage._ask = self.ask
+        tree = Tree(*FIVE)
+        lineage._ask = self.never
+        for wrong in "Small", True, None:
+            self.assertRaises(ValueError, Sheet, tree, "steep", wrong)
+            self.assertRaises(ValueError, Sheet.from_lists, tree, "steep", [1] * 5, [0] * 5, [0] * 5, [0] * 5, wrong)
 
 
 if __name__ == "__main__":

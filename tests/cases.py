@@ -3,12 +3,25 @@
 slopes of 1 to 16 levels with their levels less 1.
 
 Written from document 01 (tree table, traversal, slopes, layout, lengthen, shorten, check, refusals) and document 02
-(frames, levels, held lines), not from the Rattle code. It takes a minute or two.
+(frames, levels, held lines, the small cabinet's limits), not from the Rattle code. It takes a minute or two.
     python3 tests/cases.py > crates/cases/stdout
 """
-LIMIT = 2147483647
-LOTS = 65536
+from typing import NamedTuple
+
 CHECKED = 4096
+
+
+class Limits(NamedTuple):
+    """What a cabinet takes: the most lots, the number that refuses more, the largest place, and the number for it."""
+
+    lots: int
+    surplus: int
+    place: int
+    beyond: int
+
+
+LARGE = Limits(65536, 2, 2147483647, 11)
+SMALL = Limits(1024, 20, 1048575, 21)
 
 
 def fractions(k):
@@ -59,10 +72,10 @@ class Tree:
 
 
 class Sheet:
-    def __init__(self, tree, rule):
-        self.tree, n = tree, tree.n
+    def __init__(self, tree, rule, limits=LARGE):
+        self.tree, self.limits, n = tree, limits, tree.n
         self.times, self.x, self.y, self.held = [0] * n, [0] * n, [0] * n, [0] * n
-        if n > LOTS:
+        if n > limits.lots:
             return
         order = slopes(rule, n)
         self.slope = [order[j - 1] if j < n else (0, 0) for j in tree.post]
@@ -73,12 +86,16 @@ class Sheet:
             self.y[v] = self.y[p] + self.slope[v][1]
 
     def frame(self):
-        return (1, max(self.x) + 1, max(self.y) + 1) if self.tree.n <= LOTS else (0, 2, 0)
+        return self.too_many() or (1, max(self.x) + 1, max(self.y) + 1)
+
+    def too_many(self):
+        """The refusal of more lots than the cabinet takes, or None."""
+        return (0, self.limits.surplus, 0) if self.tree.n > self.limits.lots else None
 
     def refusal(self, v):
         """What every call on a lot refuses, or None: the lists are this program's own, and so a sheet."""
-        if self.tree.n > LOTS:
-            return (0, 2, 0)
+        if self.too_many():
+            return self.too_many()
         if v >= self.tree.n:
             return (0, 9, 0)
         return (0, 10, 0) if v == 0 else None
@@ -101,8 +118,9 @@ class Sheet:
         d = c if longer else -c
         across, up = d * self.slope[v][0], d * self.slope[v][1]
         lots = self.tree.down(v)
-        if longer and any(self.x[z] + across > LIMIT or self.y[z] + up > LIMIT for z in lots):
-            return (0, 11, v)
+        most = self.limits.place
+        if longer and any(self.x[z] + across > most or self.y[z] + up > most for z in lots):
+            return (0, self.limits.beyond, v)
         self.times[v] += d
         for z in lots:
             self.x[z] += across
@@ -114,7 +132,7 @@ class Sheet:
         for place, (v, c) in enumerate(lengthens, 1):
             answer = self.move(1, v, c)
             if answer[0] == 0:
-                return (*answer, place if self.tree.n <= LOTS else 0)
+                return (*answer, 0 if self.too_many() else place)
         return (*self.frame(), 0)
 
 
