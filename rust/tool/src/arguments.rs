@@ -43,6 +43,8 @@ static SHEET: Opt = Opt {
     most: 1,
     not_with: &["--rule"],
 };
+static SMALL: Opt =
+    option("--small", "", "draw the sheet on the small cabinet: at most 1,024 lots, and no place above 1,048,575");
 static LENGTHEN: Opt = repeated(
     "--lengthen",
     "LOT:COUNT",
@@ -71,7 +73,7 @@ static PLACES: Opt = Opt {
     value: "FILE",
     help: "check these places, a line of x and y for each lot, and not the sheet's",
     most: 1,
-    not_with: &["--rule", "--sheet", "--lengthen", "--shorten", "--hold", "--free"],
+    not_with: &["--rule", "--sheet", "--small", "--lengthen", "--shorten", "--hold", "--free"],
 };
 static BACK: Opt = option("--back", "", "turn a tree file, with the names beside it, into an outline");
 
@@ -83,8 +85,8 @@ pub static COMMANDS: [Command; 9] = [
         about: "A lot's number stands only where it cannot be taken for another lot's; the caption says how many are \
                 left out. Every dot has a title with its lot, name, parent and place. A held line is heavy and black.",
         options: &[
-            &RULE, &SHEET, &LENGTHEN, &SHORTEN, &HOLD, &FREE, &PATH, &MARK, &ROOT, &DEPTH, &TITLE, &PAGE, &TO_SCALE,
-            &OUT,
+            &RULE, &SHEET, &SMALL, &LENGTHEN, &SHORTEN, &HOLD, &FREE, &PATH, &MARK, &ROOT, &DEPTH, &TITLE, &PAGE,
+            &TO_SCALE, &OUT,
         ],
     },
     Command {
@@ -94,7 +96,7 @@ pub static COMMANDS: [Command; 9] = [
         about: "The text can be taken up again by --sheet. Its first line names the rule, the number of lots and the \
                 frame in grid cells, its second the columns. held is 1 for a lot whose line is held; a file without \
                 that column, as versions before 0.5 wrote it, holds none.",
-        options: &[&RULE, &SHEET, &LENGTHEN, &SHORTEN, &HOLD, &FREE, &OUT],
+        options: &[&RULE, &SHEET, &SMALL, &LENGTHEN, &SHORTEN, &HOLD, &FREE, &OUT],
     },
     Command {
         name: "check",
@@ -102,7 +104,7 @@ pub static COMMANDS: [Command; 9] = [
         summary: "whether the sheet, or a drawing of your own, is monotone",
         about: "Prints 'Monotone', or 'Turns U V' with the first pair of lots that has no direction; the status is 1 \
                 then.",
-        options: &[&RULE, &SHEET, &LENGTHEN, &SHORTEN, &HOLD, &FREE, &PLACES],
+        options: &[&RULE, &SHEET, &SMALL, &LENGTHEN, &SHORTEN, &HOLD, &FREE, &PLACES],
     },
     Command {
         name: "direction",

@@ -8,7 +8,7 @@ use crate::plan::Ask;
 use crate::sheetfile::{self, Saved, Words};
 use crate::stop::{misuse, refused, Stop, REFUSED};
 use crate::{completion, help, manual, outline};
-use lineage::{check, Frame, PostNumbers, Rule, Sheet, Stopped, Verdict};
+use lineage::{check, Cabinet, Frame, PostNumbers, Rule, Sheet, Stopped, Verdict};
 use std::ffi::OsStr;
 use std::io::Write;
 
@@ -36,8 +36,10 @@ fn rule(given: &Given) -> Result<Rule, Stop> {
 
 /// The sheet that was saved, or a fresh one.
 fn opened(given: &Given, source: Source) -> Result<(Sheet, Vec<String>), Stop> {
+    let cabinet = if given.has("--small") { Cabinet::Small } else { Cabinet::Large };
     let Some(path) = given.one("--sheet") else {
-        return Ok((Sheet::new(source.tree, rule(given)?).map_err(refused(&source.file))?, source.names));
+        let sheet = Sheet::new_in(source.tree, rule(given)?, cabinet).map_err(refused(&source.file))?;
+        return Ok((sheet, source.names));
     };
     let file = files::shown(path);
     let Content::Sheet(text) = files::content(files::read(path)?) else {
@@ -45,7 +47,7 @@ fn opened(given: &Given, source: Source) -> Result<(Sheet, Vec<String>), Stop> {
     };
     let Saved { rule, frame, times, x, y, held, names } =
         sheetfile::parse(&text).or_else(|e| misuse(format!("{file}:{e}")))?;
-    let sheet = Sheet::from_lists(source.tree, rule, times, x, y, held).map_err(refused(&file))?;
+    let sheet = Sheet::from_lists_in(source.tree, rule, cabinet, times, x, y, held).map_err(refused(&file))?;
     if sheet.frame() != frame {
         let Frame { width, height } = sheet.frame();
         return misuse(format!("{file}:1: the frame is {width} {height}, in grid cells"));

@@ -93,6 +93,40 @@ fn saved_sheets_are_taken_up_again() {
     assert!(status == 2 && message.contains("is a sheet file: name its tree here"), "{message}");
 }
 
+/// On the small cabinet sheets are the same, up to its limits.
+#[test]
+fn the_small_cabinet() {
+    let (tree, saved) = (five("small.tree"), place("small.sheet"));
+    assert_eq!(out(&["sheet", &tree, "--small"]), FRESH);
+    assert_eq!(out(&["sheet", &tree, "--small", "--lengthen", "1:2", "-o", &saved]), "");
+    assert_eq!(out(&["sheet", &tree, "--sheet", &saved]), STRETCHED);
+    assert_eq!(out(&["sheet", &tree, "--sheet", &saved, "--small", "--shorten", "1:2"]), FRESH);
+    assert_eq!(out(&["check", &tree, "--small", "--hold=3", "--lengthen=1:2"]), "Monotone\n");
+    assert_eq!(out(&["draw", &tree, "--small"]), out(&["draw", &tree]));
+
+    let (status, message) = fails(&["sheet", &tree, "--small", "--lengthen=2:1", "--lengthen=1:500000"]);
+    let right = "small.tree: --lengthen 1:500000 (2 of 2): lengthen refused (21) at lot 1: some place would be above";
+    assert!(status == 1 && message.contains(right), "{message}");
+    out(&["sheet", &tree, "--lengthen", "1:500000", "-o", &saved]);
+    assert_eq!(out(&["check", &tree, "--sheet", &saved]), "Monotone\n");
+    let (status, message) = fails(&["check", &tree, "--sheet", &saved, "--small"]);
+    assert!(status == 1 && message.contains("small.sheet: the sheet refused (8) at lot 1"), "{message}");
+
+    for (lots, name) in [(1024, "village.tree"), (1025, "town.tree")] {
+        let tree = common::tree(name, &vec![0; lots]);
+        assert!(
+            out(&["sheet", &tree]).starts_with(&format!("lineage sheet: rule steep, lots {lots}, frame 2 {lots}\n"))
+        );
+        if lots == 1024 {
+            assert_eq!(out(&["sheet", &tree, "--small"]), out(&["sheet", &tree]));
+        } else {
+            let (status, message) = fails(&["sheet", &tree, "--small"]);
+            let right = "town.tree: layout refused (20): there are more than 1,024 lots";
+            assert!(status == 1 && message.contains(right), "{message}");
+        }
+    }
+}
+
 /// A sheet file as versions before 0.5 wrote it has no held lines, and gets its column when it is saved again.
 #[test]
 fn sheets_saved_before_lines_were_held() {
@@ -284,6 +318,9 @@ fn wrong_uses_are_told_in_a_line() {
         &["sheet", &tree, "--free", "x"],
         &["check", &tree, "--places", &tree, "--hold", "1"],
         &["check", &tree, "--places", &tree, "--free", "1"],
+        &["check", &tree, "--places", &tree, "--small"],
+        &["numbers", &tree, "--small"],
+        &["sheet", &tree, "--small=yes"],
         &["outline", &tree, "--rule", "steep"],
         &["completion", "zsh"],
         &["man", "draw"],
