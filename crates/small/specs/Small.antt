@@ -32,7 +32,7 @@ pub record Stays (S L : Limits) (n : ℕ) (o : Outcome Framed Sheet) : Type 0 wh
   pub near : Near (S .place) n (o .left)
   pub not-far : (v : ℕ) → ¬ (o .answer ≡ Refused (L .far) v)
 
--- of a table of at most S's nodes. Refusals are among the answers
+-- refusals are among the answers; `same` shows it of every table of at most S's nodes
 pub record Same (S L : Limits) (P R : List ℕ) (rule : Rule) (s : Sheet) (work : ℕ) : Type 0 where
   pub layouts : layout S P R rule s work ≡ layout L P R rule s work
   -- of a sheet with no place beyond the limit of S

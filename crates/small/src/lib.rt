@@ -23,8 +23,8 @@ pub fn layout_small(
 ) -> Framed
     ensures { λ r. ⌜ Does small parent rank (sheet times x y held) work (λ P R s m. layout small P R rule s m) r ⌝ }
 {
-    let limits = small_limits();
-    layout_within(limits, rule, parent, rank, times, x, y, held, work)
+    let cap = small_limits();
+    layout_within(cap, rule, parent, rank, times, x, y, held, work)
 }
 
 // Lengthen with no place above 1,048,575: it refuses one with 21, and a sheet that has one with 8.
@@ -43,20 +43,8 @@ pub fn lengthen_small(
     ensures { λ r. ⌜ Does small parent rank (sheet times x y held) work
         (λ P R s m. lengthen small P R rule s m lot count) r ⌝ }
 {
-    let limits = small_limits();
-    lengthen_within(
-        limits,
-        rule,
-        parent,
-        rank,
-        times,
-        x,
-        y,
-        held,
-        work,
-        lot,
-        count,
-    )
+    let cap = small_limits();
+    lengthen_within(cap, rule, parent, rank, times, x, y, held, work, lot, count)
 }
 
 // Shorten of a sheet with no place above 1,048,575.
@@ -75,18 +63,6 @@ pub fn shorten_small(
     ensures { λ r. ⌜ Does small parent rank (sheet times x y held) work
         (λ P R s m. shorten small P R rule s m lot count) r ⌝ }
 {
-    let limits = small_limits();
-    shorten_within(
-        limits,
-        rule,
-        parent,
-        rank,
-        times,
-        x,
-        y,
-        held,
-        work,
-        lot,
-        count,
-    )
+    let cap = small_limits();
+    shorten_within(cap, rule, parent, rank, times, x, y, held, work, lot, count)
 }
