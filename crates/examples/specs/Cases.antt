@@ -27,9 +27,9 @@ use Rattle.numbers.specs.PostNumbers.{Spans, spans, spansOf, postNumbers}
 use Rattle.slopes.specs.declared.Rule.{Rule}
 use Rattle.slopes.specs.declared.Rule.the-variants.{Steep, Balanced}
 use Rattle.slopes.specs.declared.Slope.{Slope}
-use Rattle.slopes.specs.Examples.{_over_}
 use Rattle.slopes.specs.SlopeLaws.{levelsFor-is, acrossBound, upBound}
 use Rattle.slopes.specs.Slopes.{levels, levelNumbers, flat, upright, levelAt, levelsFor, slopeAt, edge}
+use Rattle.slopes.specs.Ten.{_over_}
 use Rattle.drawing.specs.declared.Framed.{Framed}
 use Rattle.drawing.specs.declared.Framed.the-variants.{Frame, Refused}
 use Rattle.drawing.specs.Drawing as drawing

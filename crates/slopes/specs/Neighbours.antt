@@ -1,6 +1,7 @@
 -- The slopes in order, each told by its two neighbours.
 --
 --   bordered k l r j        == the j-th, from 0, of l, the fractions of levels 1 to k between l and r, and r
+--   bordered-stride         == of k + d levels every 2^d-th fraction is one of k levels
 --   neighbours-sum          == a fraction's two neighbours sum to 2 t + 1 times it, if its position ends in t zeros
 --   steep j                 == the j-th steep slope
 --   borderedAt rule n j     == the j-th slope for n nodes, with 0/1 for the 0-th; in the balanced rule 1/0 follows the
@@ -10,11 +11,11 @@
 use mathlib.Core.List.{List, [], _∷_}
 use mathlib.Core.Path.{_≡_, refl, sym, ap, ap₂, _∙_}
 use Prim.Native.Nat.{ℕ, zero, suc, _+_, _-_, _*_, _^_, _≤_, _<_}
-use native.Mathlib.Nat.{pow-suc}
+use native.Mathlib.Nat.{mul-le-mul-right, pow-suc}
 use native.Mathlib.Omega.{arith}
 use lib.Count.{trailingZeros}
 use lib.ListN.{length, getD, List·getD-append, List·getD-eq-default}
-use lib.Pow.{pow-pos}
+use lib.Pow.{pow-pos, pow-add}
 use lib.Seq.{getD-at, getD-append-add}
 use Rattle.laws.specs.Tests.{by-lt}
 use Rattle.slopes.specs.declared.Rule.{Rule}
@@ -57,6 +58,29 @@ module _ (k : ℕ) (l r : Slope) where
       let m = l ⊕ r in
       let e : 2 ^ k + i ≡ length (l ∷ levels k l (l ⊕ r)) + i = omega (arith, levels-length k l (l ⊕ r)) in
       rw e (getD-append-add (l ∷ levels k l m) (m ∷ levels k m r) i r)
+
+bordered-end : (k : ℕ) (l r : Slope) (j : ℕ) → j ≡ 2 ^ k → bordered k l r j ≡ r
+bordered-end k l r j e = List·getD-eq-default (l ∷ levels k l r) r {n = j} (omega (arith, levels-length k l r))
+
+pub bordered-stride : (k d : ℕ) (l r : Slope) (j : ℕ) → j ≤ 2 ^ k → bordered (k + d) l r (j * 2 ^ d) ≡ bordered k l r j
+unfolding levels
+bordered-stride zero d l r zero h = let none : 0 * 2 ^ d ≡ 0 = omega arith in rw none
+bordered-stride zero d l r (suc j) h =
+    let e : suc j ≡ 1 = omega arith in
+    let none : 0 + d ≡ d = omega arith in
+    rw e (rw none (bordered-end d l r (1 * 2 ^ d) (omega arith)))
+bordered-stride (suc k) d l r j h =
+    let more : suc k + d ≡ suc (k + d) = omega arith in
+    let power = pow-add 2 k d in
+    by-lt (2 ^ k) j
+    (λ b. let i = j - 2 ^ k in
+    let here : j ≡ 2 ^ k + i = omega arith in
+    let at : j * 2 ^ d ≡ 2 ^ (k + d) + i * 2 ^ d = ap (λ m. m * 2 ^ d) here ∙ omega (arith, power) in
+    rw (more, at, bordered-right (k + d) l r (i * 2 ^ d), bordered-stride k d (l ⊕ r) r i (omega (arith, pow-suc 2 k)))
+    (sym (ap (bordered (suc k) l r) here ∙ bordered-right k l r i)))
+    (λ b. let within : j * 2 ^ d ≤ 2 ^ (k + d) = rw power (mul-le-mul-right (2 ^ d) b) in
+    rw (more, bordered-left (k + d) l r (j * 2 ^ d) within, bordered-stride k d l (l ⊕ r) j b)
+    (sym (bordered-left k l r j b)))
 
 ------------------------------------------------------------------------
 -- Sums of neighbours
@@ -138,9 +162,7 @@ bordered-is k j h g =
     ∙ getD-any (levels k flat upright) (j - 1) upright flat (omega (arith, levels-length k flat upright))
 
 pub bordered-last : (k j : ℕ) → j ≡ 2 ^ k → bordered k flat upright j ≡ upright
-bordered-last k j e =
-    List·getD-eq-default (flat ∷ levels k flat upright) upright {n = j}
-    (omega (arith, levels-length k flat upright))
+bordered-last k = bordered-end k flat upright
 
 -- the slopes themselves
 pub bordered-slope : (rule : Rule) (n j : ℕ) → 1 ≤ j → j < n → borderedAt rule n j ≡ slopeAt rule n j

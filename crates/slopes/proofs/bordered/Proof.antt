@@ -1,4 +1,4 @@
--- `slopes::bordered` meets its contract: both ends apart, the rest by a walk.
+-- `slopes::bordered` meets its contract: both ends apart, the rest as fractions.
 use borrow.Author.Needs.{needs}
 use mathlib.Core.Path.{_≡_, sym, ap, _∙_}
 use Prim.Native.Nat.{ℕ, _*_, _%_, _^_, _≤_}
@@ -20,19 +20,18 @@ returns-2 c =
     let start = c .before .before in
     sym (bordered-last _ _ (c .if2 .taken ∙ one-shifted (start .args .k) (start .pre .0)))
 
-walk-to-requires : tie.Need-walk-to-requires
-walk-to-requires c κs =
+fraction-requires : tie.Need-fraction-requires
+fraction-requires c κs =
     let start = c .before .before in
     let power = one-shifted (start .args .k) (start .pre .0) in
     (start .pre .0, omega arith, omega arith)
 
 returns-3 : tie.Need-returns-3
 returns-3 c =
-    let walked = c .before in
-    let start = walked .before .before .before in
+    let start = c .before .before .before in
     let power = one-shifted (start .args .k) (start .pre .0) in
-    walked .walk-to .ensures .0 ∙ sym (bordered-is (start .args .k) (start .args .j) (omega arith) (omega arith))
+    c .fraction .ensures ∙ sym (bordered-is (start .args .k) (start .args .j) (omega arith) (omega arith))
 
 pub bordered-spec : {M : Type 1} → statement M
-bordered-spec = tie.close (tie.spec returns (λ c. search needs) returns-2 (λ c. search needs) walk-to-requires
+bordered-spec = tie.close (tie.spec returns (λ c. search needs) returns-2 (λ c. search needs) fraction-requires
     returns-3)

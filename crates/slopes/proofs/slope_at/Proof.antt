@@ -1,5 +1,5 @@
--- `slopes::slope_at` meets its contract: the steep slope as it is defined, the balanced one by a walk in as many
--- levels as n nodes need.
+-- `slopes::slope_at` meets its contract: the steep slope as it is defined, the balanced one in as many levels as n
+-- nodes need.
 use borrow.Author.Needs.{needs}
 use mathlib.Core.Path.{sym, ap, _∙_}
 use Prim.Native.Nat.{ℕ}
@@ -10,8 +10,8 @@ use Rattle.slopes.specs.SlopeLaws.{levelsFor-least, levelsFor-enough}
 use Rattle.slopes.proofs.slope_at.Statement.{statement}
 use Rattle.slopes.proofs.slope_at.Tie as tie
 
-walk-to-requires : tie.Need-walk-to-requires
-walk-to-requires c κs =
+fraction-requires : tie.Need-fraction-requires
+fraction-requires c κs =
     let start = c .before .before .before in
     let n = start .args .n in
     rw (c .levels-for .ensures)
@@ -28,15 +28,14 @@ returns c =
 returns-2 : tie.Need-returns-2
 unfolding slopeAt
 returns-2 c =
-    let walked = c .before in
-    let counted = walked .before in
+    let counted = c .before in
     let told = counted .before in
     let start = told .before .before in
     let j = start .args .j in
-    walked .walk-to .ensures .0
+    c .fraction .ensures
     ∙ ap (λ (k : ℕ). fractionAt k j) (counted .levels-for .ensures)
     ∙ sym (ap (λ (rule : Rule). slopeAt rule (start .args .n) j) (told .enum-told2 .given .1))
 
 pub slope-at-spec : {M : Type 1} → statement M
 slope-at-spec = tie.close (tie.spec (λ c. search needs) (λ c κs. search needs) (λ c. search needs)
-    (λ c κs. search needs) (λ c. search needs) walk-to-requires returns returns-2)
+    (λ c κs. search needs) (λ c. search needs) fraction-requires returns returns-2)

@@ -1,0 +1,139 @@
+-- The 1,023 slopes of ten levels (document 02, request 102), as the paper writes them: up over across. Made by ten.py.
+use mathlib.Core.List.{List, [], _∷_}
+use Prim.Native.Nat.{ℕ}
+use Rattle.slopes.specs.declared.Slope.{Slope}
+
+infix 70 _over_
+abbrev pub _over_ : ℕ → ℕ → Slope
+u over a = record { across = a; up = u }
+
+unfoldable pub ten : List Slope
+ten =
+    1 over 10 ∷ 1 over 9 ∷ 2 over 17 ∷ 1 over 8 ∷ 3 over 23 ∷ 2 over 15 ∷ 3 over 22 ∷ 1 over 7
+    ∷ 4 over 27 ∷ 3 over 20 ∷ 5 over 33 ∷ 2 over 13 ∷ 5 over 32 ∷ 3 over 19 ∷ 4 over 25 ∷ 1 over 6
+    ∷ 5 over 29 ∷ 4 over 23 ∷ 7 over 40 ∷ 3 over 17 ∷ 8 over 45 ∷ 5 over 28 ∷ 7 over 39 ∷ 2 over 11
+    ∷ 7 over 38 ∷ 5 over 27 ∷ 8 over 43 ∷ 3 over 16 ∷ 7 over 37 ∷ 4 over 21 ∷ 5 over 26 ∷ 1 over 5
+    ∷ 6 over 29 ∷ 5 over 24 ∷ 9 over 43 ∷ 4 over 19 ∷ 11 over 52 ∷ 7 over 33 ∷ 10 over 47 ∷ 3 over 14
+    ∷ 11 over 51 ∷ 8 over 37 ∷ 13 over 60 ∷ 5 over 23 ∷ 12 over 55 ∷ 7 over 32 ∷ 9 over 41 ∷ 2 over 9
+    ∷ 9 over 40 ∷ 7 over 31 ∷ 12 over 53 ∷ 5 over 22 ∷ 13 over 57 ∷ 8 over 35 ∷ 11 over 48 ∷ 3 over 13
+    ∷ 10 over 43 ∷ 7 over 30 ∷ 11 over 47 ∷ 4 over 17 ∷ 9 over 38 ∷ 5 over 21 ∷ 6 over 25 ∷ 1 over 4
+    ∷ 7 over 27 ∷ 6 over 23 ∷ 11 over 42 ∷ 5 over 19 ∷ 14 over 53 ∷ 9 over 34 ∷ 13 over 49 ∷ 4 over 15
+    ∷ 15 over 56 ∷ 11 over 41 ∷ 18 over 67 ∷ 7 over 26 ∷ 17 over 63 ∷ 10 over 37 ∷ 13 over 48 ∷ 3 over 11
+    ∷ 14 over 51 ∷ 11 over 40 ∷ 19 over 69 ∷ 8 over 29 ∷ 21 over 76 ∷ 13 over 47 ∷ 18 over 65 ∷ 5 over 18
+    ∷ 17 over 61 ∷ 12 over 43 ∷ 19 over 68 ∷ 7 over 25 ∷ 16 over 57 ∷ 9 over 32 ∷ 11 over 39 ∷ 2 over 7
+    ∷ 11 over 38 ∷ 9 over 31 ∷ 16 over 55 ∷ 7 over 24 ∷ 19 over 65 ∷ 12 over 41 ∷ 17 over 58 ∷ 5 over 17
+    ∷ 18 over 61 ∷ 13 over 44 ∷ 21 over 71 ∷ 8 over 27 ∷ 19 over 64 ∷ 11 over 37 ∷ 14 over 47 ∷ 3 over 10
+    ∷ 13 over 43 ∷ 10 over 33 ∷ 17 over 56 ∷ 7 over 23 ∷ 18 over 59 ∷ 11 over 36 ∷ 15 over 49 ∷ 4 over 13
+    ∷ 13 over 42 ∷ 9 over 29 ∷ 14 over 45 ∷ 5 over 16 ∷ 11 over 35 ∷ 6 over 19 ∷ 7 over 22 ∷ 1 over 3
+    ∷ 8 over 23 ∷ 7 over 20 ∷ 13 over 37 ∷ 6 over 17 ∷ 17 over 48 ∷ 11 over 31 ∷ 16 over 45 ∷ 5 over 14
+    ∷ 19 over 53 ∷ 14 over 39 ∷ 23 over 64 ∷ 9 over 25 ∷ 22 over 61 ∷ 13 over 36 ∷ 17 over 47 ∷ 4 over 11
+    ∷ 19 over 52 ∷ 15 over 41 ∷ 26 over 71 ∷ 11 over 30 ∷ 29 over 79 ∷ 18 over 49 ∷ 25 over 68 ∷ 7 over 19
+    ∷ 24 over 65 ∷ 17 over 46 ∷ 27 over 73 ∷ 10 over 27 ∷ 23 over 62 ∷ 13 over 35 ∷ 16 over 43 ∷ 3 over 8
+    ∷ 17 over 45 ∷ 14 over 37 ∷ 25 over 66 ∷ 11 over 29 ∷ 30 over 79 ∷ 19 over 50 ∷ 27 over 71 ∷ 8 over 21
+    ∷ 29 over 76 ∷ 21 over 55 ∷ 34 over 89 ∷ 13 over 34 ∷ 31 over 81 ∷ 18 over 47 ∷ 23 over 60 ∷ 5 over 13
+    ∷ 22 over 57 ∷ 17 over 44 ∷ 29 over 75 ∷ 12 over 31 ∷ 31 over 80 ∷ 19 over 49 ∷ 26 over 67 ∷ 7 over 18
+    ∷ 23 over 59 ∷ 16 over 41 ∷ 25 over 64 ∷ 9 over 23 ∷ 20 over 51 ∷ 11 over 28 ∷ 13 over 33 ∷ 2 over 5
+    ∷ 13 over 32 ∷ 11 over 27 ∷ 20 over 49 ∷ 9 over 22 ∷ 25 over 61 ∷ 16 over 39 ∷ 23 over 56 ∷ 7 over 17
+    ∷ 26 over 63 ∷ 19 over 46 ∷ 31 over 75 ∷ 12 over 29 ∷ 29 over 70 ∷ 17 over 41 ∷ 22 over 53 ∷ 5 over 12
+    ∷ 23 over 55 ∷ 18 over 43 ∷ 31 over 74 ∷ 13 over 31 ∷ 34 over 81 ∷ 21 over 50 ∷ 29 over 69 ∷ 8 over 19
+    ∷ 27 over 64 ∷ 19 over 45 ∷ 30 over 71 ∷ 11 over 26 ∷ 25 over 59 ∷ 14 over 33 ∷ 17 over 40 ∷ 3 over 7
+    ∷ 16 over 37 ∷ 13 over 30 ∷ 23 over 53 ∷ 10 over 23 ∷ 27 over 62 ∷ 17 over 39 ∷ 24 over 55 ∷ 7 over 16
+    ∷ 25 over 57 ∷ 18 over 41 ∷ 29 over 66 ∷ 11 over 25 ∷ 26 over 59 ∷ 15 over 34 ∷ 19 over 43 ∷ 4 over 9
+    ∷ 17 over 38 ∷ 13 over 29 ∷ 22 over 49 ∷ 9 over 20 ∷ 23 over 51 ∷ 14 over 31 ∷ 19 over 42 ∷ 5 over 11
+    ∷ 16 over 35 ∷ 11 over 24 ∷ 17 over 37 ∷ 6 over 13 ∷ 13 over 28 ∷ 7 over 15 ∷ 8 over 17 ∷ 1 over 2
+    ∷ 9 over 17 ∷ 8 over 15 ∷ 15 over 28 ∷ 7 over 13 ∷ 20 over 37 ∷ 13 over 24 ∷ 19 over 35 ∷ 6 over 11
+    ∷ 23 over 42 ∷ 17 over 31 ∷ 28 over 51 ∷ 11 over 20 ∷ 27 over 49 ∷ 16 over 29 ∷ 21 over 38 ∷ 5 over 9
+    ∷ 24 over 43 ∷ 19 over 34 ∷ 33 over 59 ∷ 14 over 25 ∷ 37 over 66 ∷ 23 over 41 ∷ 32 over 57 ∷ 9 over 16
+    ∷ 31 over 55 ∷ 22 over 39 ∷ 35 over 62 ∷ 13 over 23 ∷ 30 over 53 ∷ 17 over 30 ∷ 21 over 37 ∷ 4 over 7
+    ∷ 23 over 40 ∷ 19 over 33 ∷ 34 over 59 ∷ 15 over 26 ∷ 41 over 71 ∷ 26 over 45 ∷ 37 over 64 ∷ 11 over 19
+    ∷ 40 over 69 ∷ 29 over 50 ∷ 47 over 81 ∷ 18 over 31 ∷ 43 over 74 ∷ 25 over 43 ∷ 32 over 55 ∷ 7 over 12
+    ∷ 31 over 53 ∷ 24 over 41 ∷ 41 over 70 ∷ 17 over 29 ∷ 44 over 75 ∷ 27 over 46 ∷ 37 over 63 ∷ 10 over 17
+    ∷ 33 over 56 ∷ 23 over 39 ∷ 36 over 61 ∷ 13 over 22 ∷ 29 over 49 ∷ 16 over 27 ∷ 19 over 32 ∷ 3 over 5
+    ∷ 20 over 33 ∷ 17 over 28 ∷ 31 over 51 ∷ 14 over 23 ∷ 39 over 64 ∷ 25 over 41 ∷ 36 over 59 ∷ 11 over 18
+    ∷ 41 over 67 ∷ 30 over 49 ∷ 49 over 80 ∷ 19 over 31 ∷ 46 over 75 ∷ 27 over 44 ∷ 35 over 57 ∷ 8 over 13
+    ∷ 37 over 60 ∷ 29 over 47 ∷ 50 over 81 ∷ 21 over 34 ∷ 55 over 89 ∷ 34 over 55 ∷ 47 over 76 ∷ 13 over 21
+    ∷ 44 over 71 ∷ 31 over 50 ∷ 49 over 79 ∷ 18 over 29 ∷ 41 over 66 ∷ 23 over 37 ∷ 28 over 45 ∷ 5 over 8
+    ∷ 27 over 43 ∷ 22 over 35 ∷ 39 over 62 ∷ 17 over 27 ∷ 46 over 73 ∷ 29 over 46 ∷ 41 over 65 ∷ 12 over 19
+    ∷ 43 over 68 ∷ 31 over 49 ∷ 50 over 79 ∷ 19 over 30 ∷ 45 over 71 ∷ 26 over 41 ∷ 33 over 52 ∷ 7 over 11
+    ∷ 30 over 47 ∷ 23 over 36 ∷ 39 over 61 ∷ 16 over 25 ∷ 41 over 64 ∷ 25 over 39 ∷ 34 over 53 ∷ 9 over 14
+    ∷ 29 over 45 ∷ 20 over 31 ∷ 31 over 48 ∷ 11 over 17 ∷ 24 over 37 ∷ 13 over 20 ∷ 15 over 23 ∷ 2 over 3
+    ∷ 15 over 22 ∷ 13 over 19 ∷ 24 over 35 ∷ 11 over 16 ∷ 31 over 45 ∷ 20 over 29 ∷ 29 over 42 ∷ 9 over 13
+    ∷ 34 over 49 ∷ 25 over 36 ∷ 41 over 59 ∷ 16 over 23 ∷ 39 over 56 ∷ 23 over 33 ∷ 30 over 43 ∷ 7 over 10
+    ∷ 33 over 47 ∷ 26 over 37 ∷ 45 over 64 ∷ 19 over 27 ∷ 50 over 71 ∷ 31 over 44 ∷ 43 over 61 ∷ 12 over 17
+    ∷ 41 over 58 ∷ 29 over 41 ∷ 46 over 65 ∷ 17 over 24 ∷ 39 over 55 ∷ 22 over 31 ∷ 27 over 38 ∷ 5 over 7
+    ∷ 28 over 39 ∷ 23 over 32 ∷ 41 over 57 ∷ 18 over 25 ∷ 49 over 68 ∷ 31 over 43 ∷ 44 over 61 ∷ 13 over 18
+    ∷ 47 over 65 ∷ 34 over 47 ∷ 55 over 76 ∷ 21 over 29 ∷ 50 over 69 ∷ 29 over 40 ∷ 37 over 51 ∷ 8 over 11
+    ∷ 35 over 48 ∷ 27 over 37 ∷ 46 over 63 ∷ 19 over 26 ∷ 49 over 67 ∷ 30 over 41 ∷ 41 over 56 ∷ 11 over 15
+    ∷ 36 over 49 ∷ 25 over 34 ∷ 39 over 53 ∷ 14 over 19 ∷ 31 over 42 ∷ 17 over 23 ∷ 20 over 27 ∷ 3 over 4
+    ∷ 19 over 25 ∷ 16 over 21 ∷ 29 over 38 ∷ 13 over 17 ∷ 36 over 47 ∷ 23 over 30 ∷ 33 over 43 ∷ 10 over 13
+    ∷ 37 over 48 ∷ 27 over 35 ∷ 44 over 57 ∷ 17 over 22 ∷ 41 over 53 ∷ 24 over 31 ∷ 31 over 40 ∷ 7 over 9
+    ∷ 32 over 41 ∷ 25 over 32 ∷ 43 over 55 ∷ 18 over 23 ∷ 47 over 60 ∷ 29 over 37 ∷ 40 over 51 ∷ 11 over 14
+    ∷ 37 over 47 ∷ 26 over 33 ∷ 41 over 52 ∷ 15 over 19 ∷ 34 over 43 ∷ 19 over 24 ∷ 23 over 29 ∷ 4 over 5
+    ∷ 21 over 26 ∷ 17 over 21 ∷ 30 over 37 ∷ 13 over 16 ∷ 35 over 43 ∷ 22 over 27 ∷ 31 over 38 ∷ 9 over 11
+    ∷ 32 over 39 ∷ 23 over 28 ∷ 37 over 45 ∷ 14 over 17 ∷ 33 over 40 ∷ 19 over 23 ∷ 24 over 29 ∷ 5 over 6
+    ∷ 21 over 25 ∷ 16 over 19 ∷ 27 over 32 ∷ 11 over 13 ∷ 28 over 33 ∷ 17 over 20 ∷ 23 over 27 ∷ 6 over 7
+    ∷ 19 over 22 ∷ 13 over 15 ∷ 20 over 23 ∷ 7 over 8 ∷ 15 over 17 ∷ 8 over 9 ∷ 9 over 10 ∷ 1 over 1
+    ∷ 10 over 9 ∷ 9 over 8 ∷ 17 over 15 ∷ 8 over 7 ∷ 23 over 20 ∷ 15 over 13 ∷ 22 over 19 ∷ 7 over 6
+    ∷ 27 over 23 ∷ 20 over 17 ∷ 33 over 28 ∷ 13 over 11 ∷ 32 over 27 ∷ 19 over 16 ∷ 25 over 21 ∷ 6 over 5
+    ∷ 29 over 24 ∷ 23 over 19 ∷ 40 over 33 ∷ 17 over 14 ∷ 45 over 37 ∷ 28 over 23 ∷ 39 over 32 ∷ 11 over 9
+    ∷ 38 over 31 ∷ 27 over 22 ∷ 43 over 35 ∷ 16 over 13 ∷ 37 over 30 ∷ 21 over 17 ∷ 26 over 21 ∷ 5 over 4
+    ∷ 29 over 23 ∷ 24 over 19 ∷ 43 over 34 ∷ 19 over 15 ∷ 52 over 41 ∷ 33 over 26 ∷ 47 over 37 ∷ 14 over 11
+    ∷ 51 over 40 ∷ 37 over 29 ∷ 60 over 47 ∷ 23 over 18 ∷ 55 over 43 ∷ 32 over 25 ∷ 41 over 32 ∷ 9 over 7
+    ∷ 40 over 31 ∷ 31 over 24 ∷ 53 over 41 ∷ 22 over 17 ∷ 57 over 44 ∷ 35 over 27 ∷ 48 over 37 ∷ 13 over 10
+    ∷ 43 over 33 ∷ 30 over 23 ∷ 47 over 36 ∷ 17 over 13 ∷ 38 over 29 ∷ 21 over 16 ∷ 25 over 19 ∷ 4 over 3
+    ∷ 27 over 20 ∷ 23 over 17 ∷ 42 over 31 ∷ 19 over 14 ∷ 53 over 39 ∷ 34 over 25 ∷ 49 over 36 ∷ 15 over 11
+    ∷ 56 over 41 ∷ 41 over 30 ∷ 67 over 49 ∷ 26 over 19 ∷ 63 over 46 ∷ 37 over 27 ∷ 48 over 35 ∷ 11 over 8
+    ∷ 51 over 37 ∷ 40 over 29 ∷ 69 over 50 ∷ 29 over 21 ∷ 76 over 55 ∷ 47 over 34 ∷ 65 over 47 ∷ 18 over 13
+    ∷ 61 over 44 ∷ 43 over 31 ∷ 68 over 49 ∷ 25 over 18 ∷ 57 over 41 ∷ 32 over 23 ∷ 39 over 28 ∷ 7 over 5
+    ∷ 38 over 27 ∷ 31 over 22 ∷ 55 over 39 ∷ 24 over 17 ∷ 65 over 46 ∷ 41 over 29 ∷ 58 over 41 ∷ 17 over 12
+    ∷ 61 over 43 ∷ 44 over 31 ∷ 71 over 50 ∷ 27 over 19 ∷ 64 over 45 ∷ 37 over 26 ∷ 47 over 33 ∷ 10 over 7
+    ∷ 43 over 30 ∷ 33 over 23 ∷ 56 over 39 ∷ 23 over 16 ∷ 59 over 41 ∷ 36 over 25 ∷ 49 over 34 ∷ 13 over 9
+    ∷ 42 over 29 ∷ 29 over 20 ∷ 45 over 31 ∷ 16 over 11 ∷ 35 over 24 ∷ 19 over 13 ∷ 22 over 15 ∷ 3 over 2
+    ∷ 23 over 15 ∷ 20 over 13 ∷ 37 over 24 ∷ 17 over 11 ∷ 48 over 31 ∷ 31 over 20 ∷ 45 over 29 ∷ 14 over 9
+    ∷ 53 over 34 ∷ 39 over 25 ∷ 64 over 41 ∷ 25 over 16 ∷ 61 over 39 ∷ 36 over 23 ∷ 47 over 30 ∷ 11 over 7
+    ∷ 52 over 33 ∷ 41 over 26 ∷ 71 over 45 ∷ 30 over 19 ∷ 79 over 50 ∷ 49 over 31 ∷ 68 over 43 ∷ 19 over 12
+    ∷ 65 over 41 ∷ 46 over 29 ∷ 73 over 46 ∷ 27 over 17 ∷ 62 over 39 ∷ 35 over 22 ∷ 43 over 27 ∷ 8 over 5
+    ∷ 45 over 28 ∷ 37 over 23 ∷ 66 over 41 ∷ 29 over 18 ∷ 79 over 49 ∷ 50 over 31 ∷ 71 over 44 ∷ 21 over 13
+    ∷ 76 over 47 ∷ 55 over 34 ∷ 89 over 55 ∷ 34 over 21 ∷ 81 over 50 ∷ 47 over 29 ∷ 60 over 37 ∷ 13 over 8
+    ∷ 57 over 35 ∷ 44 over 27 ∷ 75 over 46 ∷ 31 over 19 ∷ 80 over 49 ∷ 49 over 30 ∷ 67 over 41 ∷ 18 over 11
+    ∷ 59 over 36 ∷ 41 over 25 ∷ 64 over 39 ∷ 23 over 14 ∷ 51 over 31 ∷ 28 over 17 ∷ 33 over 20 ∷ 5 over 3
+    ∷ 32 over 19 ∷ 27 over 16 ∷ 49 over 29 ∷ 22 over 13 ∷ 61 over 36 ∷ 39 over 23 ∷ 56 over 33 ∷ 17 over 10
+    ∷ 63 over 37 ∷ 46 over 27 ∷ 75 over 44 ∷ 29 over 17 ∷ 70 over 41 ∷ 41 over 24 ∷ 53 over 31 ∷ 12 over 7
+    ∷ 55 over 32 ∷ 43 over 25 ∷ 74 over 43 ∷ 31 over 18 ∷ 81 over 47 ∷ 50 over 29 ∷ 69 over 40 ∷ 19 over 11
+    ∷ 64 over 37 ∷ 45 over 26 ∷ 71 over 41 ∷ 26 over 15 ∷ 59 over 34 ∷ 33 over 19 ∷ 40 over 23 ∷ 7 over 4
+    ∷ 37 over 21 ∷ 30 over 17 ∷ 53 over 30 ∷ 23 over 13 ∷ 62 over 35 ∷ 39 over 22 ∷ 55 over 31 ∷ 16 over 9
+    ∷ 57 over 32 ∷ 41 over 23 ∷ 66 over 37 ∷ 25 over 14 ∷ 59 over 33 ∷ 34 over 19 ∷ 43 over 24 ∷ 9 over 5
+    ∷ 38 over 21 ∷ 29 over 16 ∷ 49 over 27 ∷ 20 over 11 ∷ 51 over 28 ∷ 31 over 17 ∷ 42 over 23 ∷ 11 over 6
+    ∷ 35 over 19 ∷ 24 over 13 ∷ 37 over 20 ∷ 13 over 7 ∷ 28 over 15 ∷ 15 over 8 ∷ 17 over 9 ∷ 2 over 1
+    ∷ 17 over 8 ∷ 15 over 7 ∷ 28 over 13 ∷ 13 over 6 ∷ 37 over 17 ∷ 24 over 11 ∷ 35 over 16 ∷ 11 over 5
+    ∷ 42 over 19 ∷ 31 over 14 ∷ 51 over 23 ∷ 20 over 9 ∷ 49 over 22 ∷ 29 over 13 ∷ 38 over 17 ∷ 9 over 4
+    ∷ 43 over 19 ∷ 34 over 15 ∷ 59 over 26 ∷ 25 over 11 ∷ 66 over 29 ∷ 41 over 18 ∷ 57 over 25 ∷ 16 over 7
+    ∷ 55 over 24 ∷ 39 over 17 ∷ 62 over 27 ∷ 23 over 10 ∷ 53 over 23 ∷ 30 over 13 ∷ 37 over 16 ∷ 7 over 3
+    ∷ 40 over 17 ∷ 33 over 14 ∷ 59 over 25 ∷ 26 over 11 ∷ 71 over 30 ∷ 45 over 19 ∷ 64 over 27 ∷ 19 over 8
+    ∷ 69 over 29 ∷ 50 over 21 ∷ 81 over 34 ∷ 31 over 13 ∷ 74 over 31 ∷ 43 over 18 ∷ 55 over 23 ∷ 12 over 5
+    ∷ 53 over 22 ∷ 41 over 17 ∷ 70 over 29 ∷ 29 over 12 ∷ 75 over 31 ∷ 46 over 19 ∷ 63 over 26 ∷ 17 over 7
+    ∷ 56 over 23 ∷ 39 over 16 ∷ 61 over 25 ∷ 22 over 9 ∷ 49 over 20 ∷ 27 over 11 ∷ 32 over 13 ∷ 5 over 2
+    ∷ 33 over 13 ∷ 28 over 11 ∷ 51 over 20 ∷ 23 over 9 ∷ 64 over 25 ∷ 41 over 16 ∷ 59 over 23 ∷ 18 over 7
+    ∷ 67 over 26 ∷ 49 over 19 ∷ 80 over 31 ∷ 31 over 12 ∷ 75 over 29 ∷ 44 over 17 ∷ 57 over 22 ∷ 13 over 5
+    ∷ 60 over 23 ∷ 47 over 18 ∷ 81 over 31 ∷ 34 over 13 ∷ 89 over 34 ∷ 55 over 21 ∷ 76 over 29 ∷ 21 over 8
+    ∷ 71 over 27 ∷ 50 over 19 ∷ 79 over 30 ∷ 29 over 11 ∷ 66 over 25 ∷ 37 over 14 ∷ 45 over 17 ∷ 8 over 3
+    ∷ 43 over 16 ∷ 35 over 13 ∷ 62 over 23 ∷ 27 over 10 ∷ 73 over 27 ∷ 46 over 17 ∷ 65 over 24 ∷ 19 over 7
+    ∷ 68 over 25 ∷ 49 over 18 ∷ 79 over 29 ∷ 30 over 11 ∷ 71 over 26 ∷ 41 over 15 ∷ 52 over 19 ∷ 11 over 4
+    ∷ 47 over 17 ∷ 36 over 13 ∷ 61 over 22 ∷ 25 over 9 ∷ 64 over 23 ∷ 39 over 14 ∷ 53 over 19 ∷ 14 over 5
+    ∷ 45 over 16 ∷ 31 over 11 ∷ 48 over 17 ∷ 17 over 6 ∷ 37 over 13 ∷ 20 over 7 ∷ 23 over 8 ∷ 3 over 1
+    ∷ 22 over 7 ∷ 19 over 6 ∷ 35 over 11 ∷ 16 over 5 ∷ 45 over 14 ∷ 29 over 9 ∷ 42 over 13 ∷ 13 over 4
+    ∷ 49 over 15 ∷ 36 over 11 ∷ 59 over 18 ∷ 23 over 7 ∷ 56 over 17 ∷ 33 over 10 ∷ 43 over 13 ∷ 10 over 3
+    ∷ 47 over 14 ∷ 37 over 11 ∷ 64 over 19 ∷ 27 over 8 ∷ 71 over 21 ∷ 44 over 13 ∷ 61 over 18 ∷ 17 over 5
+    ∷ 58 over 17 ∷ 41 over 12 ∷ 65 over 19 ∷ 24 over 7 ∷ 55 over 16 ∷ 31 over 9 ∷ 38 over 11 ∷ 7 over 2
+    ∷ 39 over 11 ∷ 32 over 9 ∷ 57 over 16 ∷ 25 over 7 ∷ 68 over 19 ∷ 43 over 12 ∷ 61 over 17 ∷ 18 over 5
+    ∷ 65 over 18 ∷ 47 over 13 ∷ 76 over 21 ∷ 29 over 8 ∷ 69 over 19 ∷ 40 over 11 ∷ 51 over 14 ∷ 11 over 3
+    ∷ 48 over 13 ∷ 37 over 10 ∷ 63 over 17 ∷ 26 over 7 ∷ 67 over 18 ∷ 41 over 11 ∷ 56 over 15 ∷ 15 over 4
+    ∷ 49 over 13 ∷ 34 over 9 ∷ 53 over 14 ∷ 19 over 5 ∷ 42 over 11 ∷ 23 over 6 ∷ 27 over 7 ∷ 4 over 1
+    ∷ 25 over 6 ∷ 21 over 5 ∷ 38 over 9 ∷ 17 over 4 ∷ 47 over 11 ∷ 30 over 7 ∷ 43 over 10 ∷ 13 over 3
+    ∷ 48 over 11 ∷ 35 over 8 ∷ 57 over 13 ∷ 22 over 5 ∷ 53 over 12 ∷ 31 over 7 ∷ 40 over 9 ∷ 9 over 2
+    ∷ 41 over 9 ∷ 32 over 7 ∷ 55 over 12 ∷ 23 over 5 ∷ 60 over 13 ∷ 37 over 8 ∷ 51 over 11 ∷ 14 over 3
+    ∷ 47 over 10 ∷ 33 over 7 ∷ 52 over 11 ∷ 19 over 4 ∷ 43 over 9 ∷ 24 over 5 ∷ 29 over 6 ∷ 5 over 1
+    ∷ 26 over 5 ∷ 21 over 4 ∷ 37 over 7 ∷ 16 over 3 ∷ 43 over 8 ∷ 27 over 5 ∷ 38 over 7 ∷ 11 over 2
+    ∷ 39 over 7 ∷ 28 over 5 ∷ 45 over 8 ∷ 17 over 3 ∷ 40 over 7 ∷ 23 over 4 ∷ 29 over 5 ∷ 6 over 1
+    ∷ 25 over 4 ∷ 19 over 3 ∷ 32 over 5 ∷ 13 over 2 ∷ 33 over 5 ∷ 20 over 3 ∷ 27 over 4 ∷ 7 over 1
+    ∷ 22 over 3 ∷ 15 over 2 ∷ 23 over 3 ∷ 8 over 1 ∷ 17 over 2 ∷ 9 over 1 ∷ 10 over 1 ∷ []
