@@ -11,6 +11,7 @@ fn run(program: &str, words: &[&str]) {
 /// Compiles plain.c into the folder's libplain.a.
 fn compile(folder: &Path) {
     println!("cargo:rerun-if-changed=plain.c");
+    println!("cargo:rerun-if-changed=ten.h");
     let (object, archive) = (folder.join("plain.o"), folder.join("libplain.a"));
     let (object, archive) = (object.to_str().unwrap(), archive.to_str().unwrap());
     run("gcc", &["-O3", "-Wall", "-Wextra", "-Werror", "-c", "plain.c", "-o", object]);

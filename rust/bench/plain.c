@@ -5,6 +5,8 @@
 #include <stdint.h>
 #include <string.h>
 
+#include "ten.h"
+
 #define LOTS 65536u
 #define CHECKED 4096u
 #define LIMIT 2147483647u
@@ -110,7 +112,14 @@ static void slope_at(bool balanced, uint32_t n, uint32_t j, uint32_t *across, ui
         *up = j;
         return;
     }
-    uint32_t k = 32 - (uint32_t)__builtin_clz(n - 1), level = k - (uint32_t)__builtin_ctz(j);
+    uint32_t k = 32 - (uint32_t)__builtin_clz(n - 1);
+    if (k <= 10) {
+        const uint8_t *entry = TEN[(j << (10 - k)) - 1];
+        *across = entry[0];
+        *up = entry[1];
+        return;
+    }
+    uint32_t level = k - (uint32_t)__builtin_ctz(j);
     uint32_t la = 1, lu = 0, ha = 0, hu = 1;
     for (uint32_t t = 1; t < level; t++)
         if (j >> (k - t) & 1) {
