@@ -59,6 +59,30 @@ fn lists_of_lengthens() {
 }
 
 /// The post numbers of a chain, which has the largest subtrees.
+/// The balanced slopes (across, up) of k levels between two neighbours, in order.
+fn levels(k: u32, left: (u32, u32), right: (u32, u32)) -> Vec<(u32, u32)> {
+    if k == 0 {
+        return Vec::new();
+    }
+    let middle = (left.0 + right.0, left.1 + right.1);
+    [levels(k - 1, left, middle), vec![middle], levels(k - 1, middle, right)].concat()
+}
+
+/// Each slope of up to ten levels, which the table has, and of eleven, which it hasn't: in a star a lot's place is its
+/// slope, and lengthened by 1 it is twice its slope.
+#[test]
+fn single_slopes() {
+    for n in (1..=10).flat_map(|k| [1 << k, (1 << k) + 1]) {
+        let mut sheet = Sheet::new(star(n).unwrap(), Rule::Balanced).unwrap();
+        let all: Vec<(u32, u32)> = (1..n).map(|lot| (lot, 1)).collect();
+        sheet.lengthen_each(&all).unwrap();
+        let slopes = levels(n.next_power_of_two().ilog2(), (1, 0), (0, 1));
+        for (lot, (across, up)) in (1..n as usize).zip(slopes) {
+            assert_eq!((sheet.x()[lot], sheet.y()[lot]), (2 * across, 2 * up), "lot {lot} of {n}");
+        }
+    }
+}
+
 #[test]
 fn post_numbers() {
     let chain: Vec<u32> = (0..=MAX_LOTS).map(|v| v.saturating_sub(1)).collect();
