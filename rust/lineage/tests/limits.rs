@@ -58,7 +58,6 @@ fn lists_of_lengthens() {
     assert_eq!((sheet.times()[1], sheet.frame().width), (MAX_PLACE, MAX_PLACE + 1));
 }
 
-/// The post numbers of a chain, which has the largest subtrees.
 /// The balanced slopes (across, up) of k levels between two neighbours, in order.
 fn levels(k: u32, left: (u32, u32), right: (u32, u32)) -> Vec<(u32, u32)> {
     if k == 0 {
@@ -83,6 +82,7 @@ fn single_slopes() {
     }
 }
 
+/// The post numbers of a chain, which has the largest subtrees.
 #[test]
 fn post_numbers() {
     let chain: Vec<u32> = (0..=MAX_LOTS).map(|v| v.saturating_sub(1)).collect();
