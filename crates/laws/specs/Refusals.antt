@@ -21,6 +21,14 @@ pub some-not-none : {f : Refusal} → some f ≡ none → ⊥
 unfolding isNone
 some-not-none e = differ (ap isNone e) refl
 
+-- a call is refused or not, and with one refusal
+pub never-both : {o : Option Refusal} {f : Refusal} → o ≡ none → o ≡ some f → ⊥
+never-both p q = some-not-none (sym q ∙ p)
+
+pub same-refusal : {A : Type 0} (refused : ℕ → ℕ → A) {o : Option Refusal} {f g : Refusal} → o ≡ some f → o ≡ some g
+    → refused (f .number) (f .node) ≡ refused (g .number) (g .node)
+same-refusal refused {f = f} {g} p q = let e : f ≡ g = cc in ap (λ (t : Refusal). refused (t .number) (t .node)) e
+
 ------------------------------------------------------------------------
 -- One after the other
 

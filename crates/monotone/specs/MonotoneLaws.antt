@@ -4,14 +4,13 @@
 --   Before a b u v == the pair (a, b) comes before (u, v)
 use mathlib.Core.List.{List, [], _∷_}
 use mathlib.Core.Logic.{_⊎_, inl, inr}
-use mathlib.Core.Option.{Option, none, some}
 use mathlib.Core.Path.{_≡_, refl, sym, ap, ap₂, _∙_}
 use Prim.Native.Nat.{ℕ, _<_}
 use native.Mathlib.Omega.{arith}
 use lib.IntN.{ℤ, pos, negℤ, _+ℤ_, _-ℤ_, _*ℤ_, +ℤ-invr, *ℤ-zero}
 use lib.ListN.{getD}
 use lib.Signed.{<ℤ-irrefl}
-use Rattle.laws.specs.Search.{Refusal}
+use Rattle.laws.specs.Refusals.{never-both, same-refusal}
 use Rattle.laws.specs.Signs.{<-to, <→≤, not-both}
 use Rattle.laws.specs.Solver.{Expr, _⊕_, _⊖_, _⊗_, solve}
 use Rattle.laws.specs.Tests.{by-lt}
@@ -51,13 +50,6 @@ not-both-ways x y d e a b r s =
 abbrev pub Before : ℕ → ℕ → ℕ → ℕ → Type 0
 Before a b u v = (a < u) ⊎ ((a ≡ u) × (b < v))
 
-never-both : {r : Refusal} {o : Option Refusal} → o ≡ none → o ≡ some r → ⊥
-never-both p q = let impossible : _≡_ {A = ℕ} 0 1 = cc in omega arith
-
-same-refusal : {r s : Refusal} {o : Option Refusal} → o ≡ some r → o ≡ some s
-    → Refused (r .number) (r .node) ≡ Refused (s .number) (s .node)
-same-refusal {r} {s} p q = let e : r ≡ s = cc in ap (λ (t : Refusal). Refused (t .number) (t .node)) e
-
 module _ (L : Limits) (P R x y : List ℕ) (work : ℕ) where
   -- the pairs of two answers are each not after the other
   first-pairs : (u v c d : ℕ) → (Before u v c d → ⊥) → (Before c d u v → ⊥) → Turns u v ≡ Turns c d
@@ -84,4 +76,4 @@ module _ (L : Limits) (P R x y : List ℕ) (work : ℕ) where
   says-one (Turns u v) (Refused k w) a b = absurd (never-both (a .0) b)
   says-one (Refused k v) Monotone a b = absurd (never-both (b .0) a)
   says-one (Refused k v) (Turns u w) a b = absurd (never-both (b .0) a)
-  says-one (Refused k v) (Refused j w) a b = same-refusal a b
+  says-one (Refused k v) (Refused j w) a b = same-refusal Refused a b
