@@ -17,13 +17,12 @@ use lib.Dec.{leb, eqb}
 use lib.ListN.{length, getD}
 use borrow.Author.Tests.{eqb-true, eq-eqb, ne-eqb, leb-true, le-leb}
 use Rattle.laws.specs.Tests.{by-eq, by-lt, both, both-is}
-use Rattle.table.specs.Numbering.{numbering}
-use Rattle.table.specs.Table.{parent, postNumber}
+use Rattle.table.specs.Table.{parent}
 use Rattle.table.specs.TableLaws.{Tree}
 use Rattle.slopes.specs.declared.Rule.{Rule}
 use Rattle.slopes.specs.declared.Slope.{Slope}
-use Rattle.slopes.specs.SlopeLaws.{slope-positive}
-use Rattle.slopes.specs.Slopes.{acrossOf, upOf, slopeAt, edge}
+use Rattle.slopes.specs.SlopeLaws.{edge-positive}
+use Rattle.slopes.specs.Slopes.{acrossOf, upOf, edge}
 use Rattle.drawing.specs.Drawing.{Drawing, largest, placed, nodeFits}
 use Rattle.drawing.specs.PathLaws.{Adds}
 
@@ -162,12 +161,8 @@ module _ (limit : ℕ) (P R : List ℕ) (rule : Rule) where
 -- slopes go across, so times are within the limit too
 pub drawn-times : {limit : ℕ} {P R : List ℕ} {rule : Rule} {s : Drawing} → Tree P R → Drawn limit P R rule s
     → (v : ℕ) → 0 < v → v < length P → getD (s .times) v 0 ≤ limit
-unfolding edge
-drawn-times {P = P} {R} {rule} {s} tree d v a l =
-    let n = numbering tree in
-    let across : 1 ≤ slopeAt rule (length P) (postNumber P R v) .across =
-    slope-positive rule (length P) (postNumber P R v) (n .from-1 v l)
-    (omega (arith, n .parent-later v a l, n .to-n (parent P v) (tree .inside v l))) .0 in
+drawn-times {rule = rule} {s} tree d v a l =
+    let across = edge-positive tree rule v a l .0 in
     omega (arith, mul-le-mul-left (getD (s .times) v 0) across, d .x .adds .at v a l, d .x .within v l)
 
 ------------------------------------------------------------------------

@@ -196,11 +196,16 @@ pub edge-is : (P R : List ℕ) (rule : Rule) (v : ℕ) {j : ℕ} {s : Slope} →
 unfolding edge
 edge-is P R rule v at e = e ∙ ap (slopeAt rule (length P)) at
 
-pub edge-size : {P R : List ℕ} → Tree P R → (rule : Rule) (v : ℕ) → 0 < v → v < length P
-    → (edge P R rule v .across < length P) × (edge P R rule v .up < length P)
-unfolding edge
-edge-size {P} {R} tree rule v above inside =
-    let n = numbering tree in
-    let low : postNumber P R v < length P =
-    omega (arith, n .parent-later v above inside, n .to-n (parent P v) (tree .inside v inside)) in
-    slope-size rule (length P) (postNumber P R v) (n .from-1 v inside) low
+module _ {P R : List ℕ} (tree : Tree P R) (rule : Rule) (v : ℕ) (above : 0 < v) (inside : v < length P) where
+  numbered : (1 ≤ postNumber P R v) × (postNumber P R v < length P)
+  numbered =
+      let n = numbering tree in
+      (n .from-1 v inside, omega (arith, n .parent-later v above inside, n .to-n (parent P v) (tree .inside v inside)))
+
+  pub edge-positive : (1 ≤ edge P R rule v .across) × (1 ≤ edge P R rule v .up)
+  unfolding edge
+  edge-positive = slope-positive rule (length P) (postNumber P R v) (numbered .0) (numbered .1)
+
+  pub edge-size : (edge P R rule v .across < length P) × (edge P R rule v .up < length P)
+  unfolding edge
+  edge-size = slope-size rule (length P) (postNumber P R v) (numbered .0) (numbered .1)
