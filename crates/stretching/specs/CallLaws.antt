@@ -8,6 +8,7 @@
 --   lengthen-does, shorten-does == lengthen and shorten refuse or stretch
 --   lengthen-sound              == what lengthen leaves of a sheet is one
 --   lengthen-accepted, ..       == what an accepted one was given, and what it left
+--   lengthen-made               == of a free edge, where no place goes too far, lengthen is accepted
 --   shorten-undoes              == shorten undoes lengthen
 --   lengthen-0, shorten-0       == of a free edge count 0 changes nothing and is no ground for a refusal
 use mathlib.Core.Bool.{Bool, true, false, _||_}
@@ -180,6 +181,15 @@ module _ (L : Limits) (P R : List ℕ) (rule : Rule) (s : Sheet) (work v c : ℕ
       let f = settled s onSheet (frame on) (stretchFault L P R rule s work v orElse tooFar) e in
       let parts = orElse-none (stretchFault L P R rule s work v) tooFar (f .0) in
       (free L P R rule s work v (parts .0), refuse-none _ (L .far) v (parts .1), f .1)
+
+  -- such a call is accepted
+  pub lengthen-made : Free L P R rule s work v → beyond (L .place) (length P) on ≡ false
+      → lengthen L P R rule s work v c ≡ record { answer = frame on; left = onSheet }
+  unfolding lengthen
+  lengthen-made f near =
+      let x = f .examined in
+      settle-none Refused s (frame on) onSheet _
+      (orElse-second _ _ (free-again x (x .inspected .sound) (f .free)) ∙ refuse-no _ (L .far) v near)
 
   pub shorten-accepted : {w h : ℕ} {t : Sheet}
       → shorten L P R rule s work v c ≡ record { answer = Frame w h; left = t }

@@ -382,8 +382,8 @@ fn move_subtree(
     }
 }
 
-// Whether some place of the drawing with v's edge longer would be beyond the limit.
-fn too_far(
+// Whether some place of the drawing with v's edge, which has this slope, longer would be beyond the limit.
+pub fn too_far(
     limit: usize,
     rule: Rule,
     parent: &[u32],
@@ -393,16 +393,16 @@ fn too_far(
     y: &[u32],
     work: &[u32],
     v: usize,
+    slope: Slope,
     count: u32,
 ) -> bool
     requires { ⌜ NumberedTree (now parent) (now rank) (now work)
         × Drawn limit (now parent) (now rank) rule (lent (now times) (now x) (now y))
-        × (0 < v) × (v < length (now parent)) ⌝ }
+        × (v < length (now parent)) × (slope ≡ edge (now parent) (now rank) rule v) ⌝ }
     ensures { λ r. ⌜ r ≡ beyond limit (length (now (parent .entry)))
         (longer (now (parent .entry)) (now (rank .entry)) rule (drawing times x y .entry) v count) ⌝ }
 {
     let c = count as usize;
-    let slope = edge_slope(rule, parent, rank, work, v);
     let wide = passes(limit, parent, rank, work, x, v, product(c, slope.across));
     if wide {
         return true;
@@ -410,7 +410,7 @@ fn too_far(
     passes(limit, parent, rank, work, y, v, product(c, slope.up))
 }
 
-// Makes v's edge longer or shorter, and moves its subtree along.
+// Makes v's edge, which has this slope, longer or shorter, and moves its subtree along.
 fn stretch(
     rule: Rule,
     parent: &[u32],
@@ -420,16 +420,16 @@ fn stretch(
     y: &mut [u32],
     work: &[u32],
     v: usize,
+    slope: Slope,
     count: u32,
     longer: bool,
 )
     requires { ⌜ Stretchable (now parent) (now rank) rule (lent (now times) (now x) (now y)) (now work)
-        v count longer ⌝ }
+        v count longer × (slope ≡ edge (now parent) (now rank) rule v) ⌝ }
     ensures { λ _. ⌜ drawing times x y .exit
         ≡ stretched (by longer) (now (parent .entry)) (now (rank .entry)) rule (drawing times x y .entry) v count ⌝ }
 {
     let c = count as usize;
-    let slope = edge_slope(rule, parent, rank, work, v);
     move_subtree(parent, rank, work, x, v, product(c, slope.across), longer);
     move_subtree(parent, rank, work, y, v, product(c, slope.up), longer);
     let t = get(times, v);
@@ -462,11 +462,24 @@ pub fn lengthen_edge(
         Validity::Refused(k, v) => Validity::Refused(k, v),
         Validity::Accepted => {
             let v = lot as usize;
-            let far = too_far(place, rule, parent, rank, times, x, y, work, v, count);
+            let slope = edge_slope(rule, parent, rank, work, v);
+            let far = too_far(
+                place,
+                rule,
+                parent,
+                rank,
+                times,
+                x,
+                y,
+                work,
+                v,
+                slope,
+                count,
+            );
             if far {
                 return Validity::Refused(limits.far, lot);
             }
-            stretch(rule, parent, rank, times, x, y, work, v, count, true);
+            stretch(rule, parent, rank, times, x, y, work, v, slope, count, true);
             Validity::Accepted
         }
     }
@@ -541,7 +554,20 @@ pub fn shorten_within(
             if get(times, v) <= count as usize {
                 return Framed::Refused(12, lot);
             }
-            stretch(rule, parent, rank, times, x, y, work, v, count, false);
+            let slope = edge_slope(rule, parent, rank, work, v);
+            stretch(
+                rule,
+                parent,
+                rank,
+                times,
+                x,
+                y,
+                work,
+                v,
+                slope,
+                count,
+                false,
+            );
             frame_of(x, y)
         }
     }

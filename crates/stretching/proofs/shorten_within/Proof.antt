@@ -16,8 +16,11 @@ examined c = c .before .before .before .before
 abbrev told : tie.After-get → tie.After-enum-told
 told c = c .before .before
 
-abbrev tested : tie.After-stretch → tie.Else1
-tested c = c .before .before .before .before .before
+abbrev tested : tie.After-edge-slope → tie.Else1
+tested c = c .before .before
+
+abbrev sloped : tie.After-stretch → tie.After-edge-slope
+sloped c = c .before .before .before .before .before
 
 get-requires : tie.Need-get-requires
 get-requires c κs =
@@ -33,17 +36,28 @@ returns c =
     shortened-12 _ _ (examined (told times) .examine-free .ensures) _ (told times .enum-told .given .1)
     (times .get .ensures .0) (c .if1 .taken)
 
+edge-slope-requires : tie.Need-edge-slope-requires
+edge-slope-requires c κs =
+    let accepted = told (c .before .before) in
+    let exam = examined accepted .examine-free .ensures in
+    let ok = accepted .enum-told .given .1 in
+    let x = free-of _ _ exam ok in
+    (exam .left ok .sized .numbered, x .above, x .inside)
+
 stretch-requires : tie.Need-stretch-requires
 stretch-requires c κs =
-    let more = c .before .before .before .before in
-    let times = more .before in
-    can-shorten _ _ (examined (told times) .examine-free .ensures) _ (told times .enum-told .given .1)
-    (times .get .ensures .0) (more .if1 .left)
+    let slope = c .before .before .before .before in
+    let more = tested slope in
+    let times = more .before in (
+      can-shorten _ _ (examined (told times) .examine-free .ensures) _ (told times .enum-told .given .1)
+          (times .get .ensures .0) (more .if1 .left),
+      slope .edge-slope .ensures,
+    )
 
 frame-of-requires : tie.Need-frame-of-requires
 frame-of-requires c κs =
     let new = c .before .before .before .before .before .before .before .before in
-    let more = tested new in
+    let more = tested (sloped new) in
     let times = more .before in
     let exam = examined (told times) in
     framable (called exam .pre)
@@ -60,7 +74,7 @@ returns-2 c =
 returns-3 : tie.Need-returns-3
 returns-3 c =
     let new = c .before .before .before .before .before .before .before .before .before in
-    let more = tested new in
+    let more = tested (sloped new) in
     let times = more .before in
     shortened _ _ (examined (told times) .examine-free .ensures) _ (told times .enum-told .given .1)
     (times .get .ensures .0) (more .if1 .left) (new .stretch .ensures) (c .frame-of .ensures _)
@@ -69,6 +83,7 @@ pub shorten-within-spec : {M : Type 1} → statement M
 shorten-within-spec = tie.close (tie.spec (λ c κs. search needs) (λ c. search needs) (λ c. search needs)
     get-requires (λ c. search needs) (λ c. search needs) (λ c. search needs) (λ c. search needs)
     returns
+    edge-slope-requires
     stretch-requires
     frame-of-requires (λ c. search needs) (λ c. search needs) (λ c. search needs) (λ c. search needs)
     returns-2 (λ c. search needs) (λ c. search needs) (λ c. search needs) (λ c. search needs)

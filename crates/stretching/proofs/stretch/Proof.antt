@@ -7,13 +7,10 @@ use Rattle.stretching.proofs.stretch.Statement.{statement}
 use Rattle.stretching.proofs.stretch.Tie as tie
 
 ------------------------------------------------------------------------
--- The slope, the two steps and moves, then the times
+-- The two steps and moves, then the times
 
-abbrev called : tie.After-edge-slope → tie.Start
-called c = c .before .before .before .before .before .before .before
-
-abbrev sloped : tie.After-product → tie.After-edge-slope
-sloped c = c .before .before
+abbrev called : tie.After-product → tie.Start
+called c = c .before .before .before .before .before .before .before .before
 
 abbrev stepped : tie.After-move-subtree → tie.After-product
 stepped c = c .before
@@ -33,31 +30,25 @@ timed c = c .before .before
 ------------------------------------------------------------------------
 -- Needs
 
-edge-slope-requires : tie.Need-edge-slope-requires
-edge-slope-requires c κs =
-    let pre = c .before .before .before .before .before .before .pre in (pre .numbered, pre .above, pre .inside)
-
 move-subtree-requires : tie.Need-move-subtree-requires
 move-subtree-requires c κs =
-    let slope = sloped c in
-    let pre = called slope .pre in
-    (pre .numbered, movable-at acrossOf _ (c .product .ensures .0) (slope .edge-slope .ensures) (pre .x), pre .inside)
+    let pre = called c .pre in
+    (pre .0 .numbered, movable-at acrossOf _ (c .product .ensures .0) (pre .1) (pre .0 .x), pre .0 .inside)
 
 move-subtree-requires-2 : tie.Need-move-subtree-requires-2
 move-subtree-requires-2 c κs =
-    let slope = sloped (stepped (moved-x c)) in
-    let pre = called slope .pre in
-    (pre .numbered, movable-at upOf _ (c .product2 .ensures .0) (slope .edge-slope .ensures) (pre .y), pre .inside)
+    let pre = called (stepped (moved-x c)) .pre in
+    (pre .0 .numbered, movable-at upOf _ (c .product2 .ensures .0) (pre .1) (pre .0 .y), pre .0 .inside)
 
 changed-requires : tie.Need-changed-requires
 changed-requires c κs =
-    let pre = called (sloped (stepped (moved-x (stepped-up (moved-y (c .before)))))) .pre in
+    let pre = called (stepped (moved-x (stepped-up (moved-y (c .before))))) .pre .0 in
     (λ e. omega (arith, pre .more e), λ e. omega (arith, pre .less e))
 
 put-requires : tie.Need-put-requires
 put-requires c κs =
     let times = timed c in
-    let pre = called (sloped (stepped (moved-x (stepped-up (moved-y times))))) .pre in
+    let pre = called (stepped (moved-x (stepped-up (moved-y times)))) .pre .0 in
     let fits = times-fit pre _ (times .get .ensures .0) (times .get .ensures .1) in
     (omega arith, omega arith)
 
@@ -68,14 +59,13 @@ returns c =
     let times = timed changed in
     let up = moved-y times in
     let across = moved-x (stepped-up up) in
-    let slope = sloped (stepped across) in
-    stretched-is (called slope .pre) (slope .edge-slope .ensures) (stepped across .product .ensures .0)
+    let pre = called (stepped across) .pre in
+    stretched-is (pre .0) (pre .1) (stepped across .product .ensures .0)
     (stepped-up up .product2 .ensures .0) (times .get .ensures .0) (changed .changed .ensures) (written .put .ensures)
     (across .move-subtree .ensures) (up .move-subtree2 .ensures)
 
 pub stretch-spec : {M : Type 1} → statement M
-stretch-spec = tie.close (tie.spec
-    edge-slope-requires (λ c κs. search needs)
+stretch-spec = tie.close (tie.spec (λ c κs. search needs)
     move-subtree-requires (λ c κs. search needs)
     move-subtree-requires-2 (λ c κs. search needs)
     changed-requires
