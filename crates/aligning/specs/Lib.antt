@@ -1,0 +1,2 @@
+pub mod Aligning
+pub mod AlignLaws
