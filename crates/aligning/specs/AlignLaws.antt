@@ -4,6 +4,7 @@
 --
 --   Fills L .. column c          == v's edge is free, by c it comes to the column, and no place passes the limit then
 --   brings-fills, fills-brings   == c brings v to the column exactly when it fills the gap so
+--   one-bringing                 == one count at most does it
 --   says-one                     == there is one answer
 --   Obstacle L .. column         == the edge is held, the column is to the left, the gap is no multiple of the across
 --                                   part, or some place would pass the limit
@@ -19,7 +20,7 @@ use Prim.Native.Nat.{ℕ, _+_, _-_, _*_, _/_, _≤_, _<_}
 use native.Mathlib.Nat.{mul-div-cancel, mul-le-mul-left}
 use native.Mathlib.Omega.{arith}
 use lib.ListN.{length, getD}
-use Rattle.laws.specs.Refusals.{orElse-second, refuse-no, settle-none, never-both, same-refusal}
+use Rattle.laws.specs.Refusals.{settle-none, never-both, same-refusal}
 use Rattle.laws.specs.Search.{Outcome}
 use Rattle.laws.specs.Tests.{by-test, by-eq, by-lt, differ}
 use Rattle.table.specs.Ancestry.{under-refl}
@@ -29,9 +30,9 @@ use Rattle.slopes.specs.SlopeLaws.{edge-positive}
 use Rattle.slopes.specs.Slopes.{acrossOf, edge}
 use Rattle.drawing.specs.declared.Framed.{Framed}
 use Rattle.drawing.specs.declared.Framed.the-variants as framed
-use Rattle.drawing.specs.Drawing.{Drawing, Sheet, sheetOf, frame, accepted}
+use Rattle.drawing.specs.Drawing.{Drawing, Sheet, frame, accepted}
 use Rattle.stretching.specs.CallLaws.{Examined, examined, examined-again, free-again, beyond-no, lengthen-accepted}
-use Rattle.stretching.specs.CallLaws.{lengthen-0}
+use Rattle.stretching.specs.CallLaws.{lengthen-made, lengthen-0}
 use Rattle.stretching.specs.Stretching.{beyond, lotFault, isHeld, lengthen}
 use Rattle.stretching.specs.StretchLaws.{longer, offset-in, longer-stretch}
 use Rattle.aligning.specs.Aligning.{Brings, Says}
@@ -88,11 +89,9 @@ module _ (L : Limits) (P R : List ℕ) (rule : Rule) (s : Sheet) (work v column 
       }
 
   pub fills-brings : Examined L P R rule s work v → {c : ℕ} → Fills c → Brings L P R rule s work v column c
-  unfolding lengthen frame accepted
+  unfolding frame accepted
   fills-brings e {c} f =
-      let made : lengthen L P R rule s work v c ≡ record { answer = frame (on c); left = sheetOf (on c) (s .held) } =
-      settle-none framed.Refused s (frame (on c)) (sheetOf (on c) (s .held)) _
-      (orElse-second _ _ (free-again e (e .inspected .sound) (f .free)) ∙ refuse-no _ (L .far) v (f .near)) in
+      let made = lengthen-made L P R rule s work v c (record { examined = e; free = f .free }) (f .near) in
       record {
         accepted = ap (λ (o : Outcome Framed Sheet). accepted (o .answer)) made;
         there = ap (λ (o : Outcome Framed Sheet). getD (o .left .drawing .x) v 0) made ∙ moved-to e c ∙ f .gap;
@@ -110,13 +109,15 @@ module _ (L : Limits) (P R : List ℕ) (rule : Rule) (s : Sheet) (work v column 
       let same : c * part ≡ d * part = omega arith in
       sym (mul-div-cancel c (wide e)) ∙ ap (λ n. n / part) same ∙ mul-div-cancel d (wide e)
 
-  unrefused : {c : ℕ} → Brings L P R rule s work v column c → lotFault L P R rule s work v ≡ none
+  pub one-bringing : {c d : ℕ} → Brings L P R rule s work v column c → Brings L P R rule s work v column d → c ≡ d
+  one-bringing a b = one-count (brings-examined a) (brings-fills a .gap) (brings-fills b .gap)
+
+  pub unrefused : {c : ℕ} → Brings L P R rule s work v column c → lotFault L P R rule s work v ≡ none
   unrefused b = let e = brings-examined b in examined-again e (e .inspected .sound)
 
   pub says-one : (r q : Aligned) → Says L P R rule s work v column r → Says L P R rule s work v column q → r ≡ q
   unfolding Says
-  says-one (Count c) (Count d) a b =
-      ap Count (one-count (brings-examined a) (brings-fills a .gap) (brings-fills b .gap))
+  says-one (Count c) (Count d) a b = ap Count (one-bringing a b)
   says-one (Count c) None a b = absurd (b .1 c a)
   says-one (Count c) (Refused k z) a b = absurd (never-both (unrefused a) b)
   says-one None (Count d) a b = absurd (a .1 d b)

@@ -1,2 +1,3 @@
 pub mod Aligning
 pub mod AlignLaws
+pub mod NarrowLaws

@@ -69,7 +69,7 @@ module _ {S L : Limits} (within : Narrower S L) (P R : List ℕ) (rule : Rule) (
         ap₂ (λ f k. f orElse refuse (ltb k (length P)) 8 k) (table-same (lengthsFit P s))
         (least-cong _ _ (length P) (λ z l. ap not (lot-fits-same z l)))
 
-    lot-same : (v : ℕ) → lotFault S P R rule s work v ≡ lotFault L P R rule s work v
+    pub lot-same : (v : ℕ) → lotFault S P R rule s work v ≡ lotFault L P R rule s work v
     unfolding lotFault
     lot-same v = ap (λ f. f orElse edgeFault (length P) v) sheet-same
 
