@@ -29,6 +29,8 @@ use Rattle.drawing.specs.declared.Framed.the-variants as framed
 use Rattle.drawing.specs.Drawing.{Lent}
 use Rattle.arranging.specs.declared.Arranged.{Arranged}
 use Rattle.arranging.specs.declared.Arranged.the-variants as arranged
+use Rattle.aligning.specs.declared.Aligned.{Aligned}
+use Rattle.aligning.specs.declared.Aligned.the-variants as aligned
 use Rattle.direction.specs.declared.Heading.{Heading}
 use Rattle.direction.specs.declared.Heading.the-variants as heading
 use Rattle.monotone.specs.declared.Verdict.{Verdict}
@@ -56,6 +58,11 @@ countedReply (counted.Refused number node) = refusedReply number node
 unfoldable pub framedReply : Framed → List ℤ
 framedReply (framed.Frame width height) = three (pos 1) (pos width) (pos height)
 framedReply (framed.Refused number node) = refusedReply number node
+
+unfoldable pub alignedReply : Aligned → List ℤ
+alignedReply (aligned.Count count) = three (pos 1) (pos count) (pos 0)
+alignedReply aligned.None = three (pos 2) (pos 0) (pos 0)
+alignedReply (aligned.Refused number node) = refusedReply number node
 
 unfoldable pub headingReply : Heading → List ℤ
 headingReply (heading.Along d e) = three (pos 1) d e

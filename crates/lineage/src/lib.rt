@@ -3,6 +3,7 @@
 // what the numbers mean.
 pub mod replay;
 
+use aligning::Aligned;
 use arranging::Arranged;
 use direction::Heading;
 use drawing::Framed;
@@ -20,11 +21,13 @@ ghost use Rattle.drawing.specs.Drawing.{layout, sheet, Does};
 ghost use Rattle.stretching.specs.Stretching.{lengthen, shorten};
 ghost use Rattle.holding.specs.Holding as holding;
 ghost use Rattle.arranging.specs.Arranging.{Arranges};
+ghost use Rattle.aligning.specs.Aligning.{Aligns};
 ghost use Rattle.direction.specs.Direction.{Directed};
 ghost use Rattle.monotone.specs.Monotone.{Checked};
 ghost use Rattle.treefile.specs.TreeFile.{statedOrZero, Read, Wrote};
 ghost use Rattle.lineage.specs.Exports.{ruleOf, three, countedReply, framedReply, headingReply, verdictReply};
-ghost use Rattle.lineage.specs.Exports.{savedReply, four, arrangedReply, Short, Near, Unchanged, Exported};
+ghost use Rattle.lineage.specs.Exports.{savedReply, four, arrangedReply, alignedReply, Short, Near, Unchanged};
+ghost use Rattle.lineage.specs.Exports.{Exported};
 
 // The rule that a bool stands for.
 fn rule_of(balanced: bool) -> Rule
@@ -101,6 +104,17 @@ fn put_arranged(reply: &mut [i64], answer: Arranged)
     match answer {
         Arranged::Frame(width, height) => put_four(reply, 1, width, height, 0),
         Arranged::Refused(number, lot, place) => put_four(reply, 0, number, lot, place),
+    }
+}
+
+fn put_aligned(reply: &mut [i64], answer: Aligned)
+    requires { ⌜ length (now reply) ≡ 3 ⌝ }
+    ensures { λ _. ⌜ now (reply .exit) ≡ alignedReply answer ⌝ }
+{
+    match answer {
+        Aligned::Count(count) => put_numbers(reply, 1, count, 0),
+        Aligned::None => put_numbers(reply, 2, 0, 0),
+        Aligned::Refused(number, node) => put_numbers(reply, 0, number, node),
     }
 }
 
@@ -345,6 +359,47 @@ pub extern "C" fn lineage_hold(
         hold,
     );
     put_framed(reply, answer);
+    true
+}
+
+// The count by which lengthen brings a lot to a column: {1, count, 0}, {2, 0, 0} where no count does, or
+// {0, number, node} where it is refused.
+#[no_mangle]
+pub extern "C" fn lineage_column(
+    balanced: bool,
+    parent: &[u32],
+    rank: &[u32],
+    times: &[u32],
+    x: &[u32],
+    y: &[u32],
+    held: &[u32],
+    work: &mut [u32],
+    lot: u32,
+    column: u32,
+    reply: &mut [i64],
+) -> bool
+    ensures { λ b. ⌜ Exported 3
+        (Aligns large (now (parent .entry)) (now (rank .entry)) (ruleOf balanced) (sheet times x y held .entry)
+        (now (work .entry)) (now (work .exit)) lot column)
+        alignedReply (now (work .exit) ≡ now (work .entry))
+        (now (reply .entry)) (now (reply .exit)) b ⌝ }
+{
+    if reply.len() != 3 {
+        return false;
+    }
+    let answer = aligning::column(
+        rule_of(balanced),
+        parent,
+        rank,
+        times,
+        x,
+        y,
+        held,
+        work,
+        lot,
+        column,
+    );
+    put_aligned(reply, answer);
     true
 }
 
