@@ -1,8 +1,8 @@
 -- Document 01's cases that are marked [proved], as document 02 changes them: one table, and one theorem about the
 -- definitions. Frames count grid cells (request 101), the walk to a balanced slope tells its turns (request 104), post
 -- numbers come with the first of each subtree (request 107), a lot has a direction to itself (request 109), lines can
--- be held (request 108), lengthens are made by lists (request 105), and the small cabinet has limits of its own
--- (request 106).
+-- be held (request 108), lengthens are made by lists (request 105), the small cabinet has limits of its own (request
+-- 106), and lots are brought to columns (request 110).
 --
 --   Case          == a case, with what document 01 says of it
 --   Holds c       == the definitions say so
@@ -11,6 +11,7 @@
 --   cases-hold    == every case of it holds
 use mathlib.Core.Bool.{true, false}
 use mathlib.Core.List.{List, [], _∷_, _++_, map}
+use mathlib.Core.Option.{none}
 use mathlib.Core.Path.{_≡_, refl}
 use Prim.Native.Nat.{ℕ, suc, _+_, _*_, _≤_}
 use native.Mathlib.Nat.{pow-le-pow-right}
@@ -40,6 +41,10 @@ use Rattle.holding.specs.Holding.{hold}
 use Rattle.arranging.specs.Arranging.{listsFault, eachFault, atPlace, inTurn, lengthenEach}
 use Rattle.arranging.specs.declared.Arranged.{Arranged}
 use Rattle.arranging.specs.declared.Arranged.the-variants as arranged
+use Rattle.aligning.specs.Aligning as aligning
+use Rattle.aligning.specs.AlignLaws.{Obstacle, obstacle-none, beyond-none}
+use Rattle.aligning.specs.declared.Aligned.{Aligned}
+use Rattle.aligning.specs.declared.Aligned.the-variants as aligned
 use Rattle.direction.specs.declared.Heading.the-variants.{Along}
 use Rattle.direction.specs.Direction.{sideways, heading, pairFault, direction}
 use Rattle.monotone.specs.declared.Verdict.{Verdict}
@@ -75,6 +80,8 @@ pub data Case : Type 0 where
   Calls : Outcome Framed Sheet → Framed → Sheet → Case
   -- an outcome of a list of lengthens: the answer and the sheet
   Arranges : Outcome Arranged Sheet → Arranged → Sheet → Case
+  -- what brings a lot of the five-lot table's balanced sheet to a column
+  Aligns : Sheet → ℕ → ℕ → Aligned → Case
   -- the steep direction of the five-lot table from u to v
   Goes : ℕ → ℕ → ℤ → ℤ → Case
   -- the fractions of levels 1 to k, and how many turns lead to each: one less than its level
@@ -95,6 +102,7 @@ Holds (Reaches rule across up) =
     × (across ≤ small .place) × (up ≤ small .place)
 Holds (Calls o a s) = o ≡ record { answer = a; left = s }
 Holds (Arranges o a s) = o ≡ record { answer = a; left = s }
+Holds (Aligns s v column r) = aligning.Says large fiveParents fiveRanks Balanced s 20 v column r
 Holds (Goes u v d e) = direction large fiveParents fiveRanks Steep 20 u v ≡ Along d e
 Holds (Levels k l turns) = (levels k flat upright ≡ l) × (tabulate (length l) (λ i. levelAt k (suc i)) ≡ map suc turns)
 Holds (Checks P R x y r) = Says checked P R x y (4 * length P) r
@@ -131,8 +139,17 @@ steepY = 0 ∷ 3 ∷ 4 ∷ 4 ∷ 5 ∷ []
 abbrev steep : Sheet
 steep = free ones steepX steepY
 
+abbrev balancedX : List ℕ
+balancedX = 0 ∷ 3 ∷ 1 ∷ 6 ∷ 5 ∷ []
+
+abbrev balancedY : List ℕ
+balancedY = 0 ∷ 2 ∷ 1 ∷ 3 ∷ 3 ∷ []
+
 abbrev balanced : Sheet
-balanced = free ones (0 ∷ 3 ∷ 1 ∷ 6 ∷ 5 ∷ []) (0 ∷ 2 ∷ 1 ∷ 3 ∷ 3 ∷ [])
+balanced = free ones balancedX balancedY
+
+abbrev balancedHeld : Sheet
+balancedHeld = heldOne ones balancedX balancedY
 
 abbrev stretchedOne : Sheet
 stretchedOne = free (1 ∷ 3 ∷ 1 ∷ 1 ∷ 1 ∷ []) (0 ∷ 3 ∷ 1 ∷ 4 ∷ 4 ∷ []) (0 ∷ 9 ∷ 4 ∷ 10 ∷ 11 ∷ [])
@@ -222,6 +239,21 @@ cases =
     (heldThree (1 ∷ 3 ∷ 1 ∷ 1 ∷ 1 ∷ []) (0 ∷ 3 ∷ 1 ∷ 4 ∷ 4 ∷ []) (0 ∷ 9 ∷ 4 ∷ 10 ∷ 11 ∷ []))
     -- two lots that break the sheet: the smaller one is named
     ∷ Calls (hold large fiveParents fiveRanks Steep brokenTwice 20 1 true) (Refused 8 0) brokenTwice
+    -- balanced lot 1, which goes 3 across, to columns: its own and the next that it comes to; two between them, and one
+    -- to the left; its own where it is held
+    ∷ Aligns balanced 1 3 (aligned.Count 0)
+    ∷ Aligns balanced 1 6 (aligned.Count 1)
+    ∷ Aligns balanced 1 5 aligned.None
+    ∷ Aligns balanced 1 4 aligned.None
+    ∷ Aligns balanced 1 2 aligned.None
+    ∷ Aligns balancedHeld 1 3 aligned.None
+    -- the last column that leaves lot 3 below it within the limit; the next, where lot 1 itself would fit; a column
+    -- beyond the limit
+    ∷ Aligns balanced 1 2147483643 (aligned.Count 715827880)
+    ∷ Aligns balanced 1 2147483646 aligned.None
+    ∷ Aligns balanced 1 2147483648 aligned.None
+    -- lot 0 has no edge
+    ∷ Aligns balanced 0 3 (aligned.Refused 10 0)
     -- three balanced levels, and the turns to each slope
     ∷ Levels 3 (1 over 3 ∷ 1 over 2 ∷ 2 over 3 ∷ 1 over 1 ∷ 3 over 2 ∷ 2 over 1 ∷ 3 over 1 ∷ [])
     (2 ∷ 1 ∷ 2 ∷ 0 ∷ 2 ∷ 1 ∷ 2 ∷ [])
@@ -254,6 +286,12 @@ cases =
 says : (P R x y : List ℕ) → Says checked P R x y (4 * length P) (decide checked P R x y (4 * length P))
 says P R x y = decide-says checked P R x y (4 * length P)
 
+-- what keeps lot 1 from a column
+blocked : (s : Sheet) (column : ℕ) → lotFault large fiveParents fiveRanks Balanced s 20 1 ≡ none
+    → Obstacle large fiveParents fiveRanks Balanced s 20 1 column → Holds (Aligns s 1 column aligned.None)
+unfolding Holds
+blocked s column = obstacle-none large fiveParents fiveRanks Balanced s 20 1 column
+
 ten-levels : levelsFor 1024 ≡ 10
 ten-levels =
     levelsFor-is 1024 10 (omega arith)
@@ -275,7 +313,7 @@ unfolding AllHold Holds cases count least tabulate climb leads isChild children 
     shapeFault treeFault tableFault
     levels levelNumbers levelsFor slopeAt edge sumUp pathSum freshPlaces fresh largest frame placed nodeFits moved
     heldFits lotFits stretched beyond sheetFault edgeFault lotFault stretchFault layout lengthen shorten hold accepted
-    listsFault eachFault atPlace inTurn lengthenEach sideways
+    listsFault eachFault atPlace inTurn lengthenEach aligning.Says sideways
     heading pairFault direction
     wordAt words statedNodes fileParents fileRanks openFault bytesOf allBytes fileOf digits decimal field lotLine
     lotLines sheetOf fileFault placesOfTable textOf sheetText
@@ -284,6 +322,15 @@ cases-hold =
     (refl, refl) and refl and refl and refl and refl and refl and refl and refl and refl
     and refl and refl and refl and refl and refl and refl and refl and refl and refl and refl
     and refl and refl and refl and refl and refl and refl
+    and record { accepted = refl; there = refl } and record { accepted = refl; there = refl }
+    and blocked balanced 5 refl (Obstacle.Uneven (λ c e. let is : c * 3 ≡ 2 = e in omega arith))
+    and blocked balanced 4 refl (Obstacle.Uneven (λ c e. let is : c * 3 ≡ 1 = e in omega arith))
+    and blocked balanced 2 refl (Obstacle.Left (omega arith))
+    and blocked balancedHeld 3 refl (Obstacle.Held refl)
+    and record { accepted = refl; there = refl }
+    and blocked balanced 2147483646 refl (Obstacle.Far 715827881 refl refl)
+    and beyond-none large fiveParents fiveRanks Balanced balanced 20 1 2147483648 refl (omega arith)
+    and refl
     and (refl, refl) and refl and refl and refl
     and (refl, refl, omega arith, omega arith) and reaches and refl and refl and refl and refl
     and says (0 ∷ 0 ∷ 1 ∷ 2 ∷ []) (0 ∷ 0 ∷ 0 ∷ 0 ∷ []) (0 ∷ 1 ∷ 1 ∷ 0 ∷ []) (0 ∷ 0 ∷ 1 ∷ 1 ∷ [])
