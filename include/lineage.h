@@ -43,10 +43,10 @@ extern "C" {
 /* The version of the library that this header belongs to. From 0.2 frames count grid cells; from 0.3 there is
  * lineage_post_numbers; from 0.4 a lot has a direction to itself; from 0.5 a sheet has a fourth list, held, which its
  * calls take after y, and there is lineage_hold; from 0.6 there is lineage_lengthen_each; from 0.7 the small cabinet
- * has calls of its own. */
-#define LINEAGE_VERSION "0.7.0"
+ * has calls of its own; from 0.8 there is lineage_column. */
+#define LINEAGE_VERSION "0.8.0"
 #define LINEAGE_VERSION_MAJOR 0
-#define LINEAGE_VERSION_MINOR 7
+#define LINEAGE_VERSION_MINOR 8
 #define LINEAGE_VERSION_PATCH 0
 
 /* The most lots of a table, the most that the check takes, and the largest x and y on a sheet; the small cabinet's. */
@@ -139,6 +139,16 @@ bool lineage_hold(bool balanced, const uint32_t *parent, size_t parent_length, c
                   size_t x_length, const uint32_t *y, size_t y_length, uint32_t *held, size_t held_length,
                   uint32_t *work, size_t work_length, uint32_t lot, bool hold, int64_t *reply,
                   size_t reply_length);
+
+/* The count by which lineage_lengthen brings `lot` to a column: it accepts that count, and x[lot] is `column` then. No
+ * other count does it. Reply: {1, count, 0}, or {2, 0, 0} where none does: the column is left of x[lot], the gap between
+ * them is no multiple of the slope's across part, some place would be above 2,147,483,647, or the edge is held, also
+ * where the lot stands in the column already. Nothing moves. Refusals 1 to 10. */
+bool lineage_column(bool balanced, const uint32_t *parent, size_t parent_length, const uint32_t *rank,
+                    size_t rank_length, const uint32_t *times, size_t times_length, const uint32_t *x,
+                    size_t x_length, const uint32_t *y, size_t y_length, const uint32_t *held, size_t held_length,
+                    uint32_t *work, size_t work_length, uint32_t lot, uint32_t column, int64_t *reply,
+                    size_t reply_length);
 
 /* The small cabinet: at most 1,024 lots, and no place above 1,048,575. Its layout, lengthen and shorten are calls of
  * their own, which refuse more lots with 20, in the place of 2; a place that would be above with 21, in the place of
