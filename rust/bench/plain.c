@@ -320,6 +320,38 @@ bool plain_hold(bool balanced, const uint32_t *parent, size_t parents, const uin
     return framed(x, y, n, reply);
 }
 
+bool plain_column(bool balanced, const uint32_t *parent, size_t parents, const uint32_t *rank, size_t ranks,
+                  const uint32_t *times, size_t timess, const uint32_t *x, size_t xs, const uint32_t *y, size_t ys,
+                  const uint32_t *held, size_t helds, uint32_t *work, size_t works, uint32_t lot, uint32_t column,
+                  int64_t *reply, size_t replies)
+{
+    uint32_t bad, number_, n = (uint32_t)parents;
+    if (replies != 3)
+        return false;
+    if ((number_ = sheet_refused(balanced, parent, parents, rank, ranks, times, timess, x, xs, y, ys, held, helds, work,
+                                 works, &bad)))
+        return refused(reply, number_, bad);
+    if ((number_ = lot_refused(n, lot)))
+        return refused(reply, number_, 0);
+    uint32_t across, up, low = work[2 * (size_t)n + lot], high = work[lot];
+    slope_at(balanced, n, high, &across, &up);
+    reply[0] = 2;
+    reply[1] = reply[2] = 0;
+    if (held[lot] || column < x[lot] || (column - x[lot]) % across)
+        return true;
+    uint32_t count = (column - x[lot]) / across;
+    uint64_t dx = column - x[lot], dy = (uint64_t)count * up;
+    const uint32_t *order = work + 3 * (size_t)n;
+    for (uint32_t j = low; j <= high; j++) {
+        uint32_t z = order[j - 1];
+        if (x[z] + dx > LIMIT || y[z] + dy > LIMIT)
+            return true;
+    }
+    reply[0] = 1;
+    reply[1] = count;
+    return true;
+}
+
 bool plain_direction(bool balanced, const uint32_t *parent, size_t parents, const uint32_t *rank, size_t ranks, uint32_t *work,
                      size_t works, uint32_t from, uint32_t to, int64_t *reply, size_t replies)
 {

@@ -32,6 +32,7 @@ mod plain_c {
             lengthen_each = plain_lengthen_each(mut, const; lots, counts),
             hold = plain_hold(const, mut, lot: u32, hold: bool)
         ],
+        plain_column,
         plain_direction,
         plain_post_numbers,
         plain_check,

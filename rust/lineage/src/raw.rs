@@ -45,12 +45,17 @@ impl Lists {
     pub fn lent(&mut self) -> Lists<&mut [u32]> {
         Lists { times: &mut self.times, x: &mut self.x, y: &mut self.y, held: &mut self.held }
     }
+
+    /// What a call borrows that only reads them.
+    pub fn read(&self) -> Lists<&[u32]> {
+        Lists { times: &self.times, x: &self.x, y: &self.y, held: &self.held }
+    }
 }
 
 /// The calls on slices, over C functions that have these names and the header's types. The benchmark has a second set,
-/// over a plain C version, and the small cabinet one of calls on a sheet alone. These differ in what they change, the
-/// drawing (times, x and y) or held, and in what stands between their work list and their reply: numbers, or, after a
-/// semicolon, lists that they read.
+/// over a plain C version, and the small cabinet one of calls that change a sheet alone. These differ in what they
+/// change, the drawing (times, x and y) or held, and in what stands between their work list and their reply: numbers,
+/// or, after a semicolon, lists that they read.
 #[doc(hidden)]
 #[macro_export]
 #[rustfmt::skip]
@@ -61,7 +66,7 @@ macro_rules! calls {
                 $drawing:tt, $held:tt $(, $more:ident: $number:ty)* $(; $($list:ident),*)?
             )
         ),*]
-        $(, $direction:ident, $numbers:ident, $check:ident, $read:ident, $write:ident)?
+        $(, $column:ident, $direction:ident, $numbers:ident, $check:ident, $read:ident, $write:ident)?
     ) => {
         extern "C" {
             $(fn $sheet_call(
@@ -71,6 +76,12 @@ macro_rules! calls {
                 $($more: $number,)* $($($list: *const u32, _: usize,)*)? reply: *mut i64, reply_length: usize,
             ) -> bool;)*
             $(
+            fn $column(
+                balanced: bool, parent: *const u32, parents: usize, rank: *const u32, ranks: usize,
+                times: *const u32, times_length: usize, x: *const u32, x_length: usize, y: *const u32,
+                y_length: usize, held: *const u32, held_length: usize, work: *mut u32, work_length: usize, lot: u32,
+                column: u32, reply: *mut i64, reply_length: usize,
+            ) -> bool;
             fn $direction(
                 balanced: bool, parent: *const u32, parents: usize, rank: *const u32, ranks: usize, work: *mut u32,
                 work_length: usize, from: u32, to: u32, reply: *mut i64, reply_length: usize,
@@ -117,6 +128,22 @@ macro_rules! calls {
         )*
 
         $(
+        /// {1, count, 0}, or {2, 0, 0} where no count brings the lot to the column.
+        #[allow(clippy::too_many_arguments)]
+        pub fn column(
+            balanced: bool, parent: &[u32], rank: &[u32], s: $crate::raw::Lists<&[u32]>, work: &mut [u32], lot: u32,
+            column: u32, reply: &mut [i64],
+        ) -> bool {
+            // SAFETY: as in the calls on a sheet.
+            unsafe {
+                $column(
+                    balanced, parent.as_ptr(), parent.len(), rank.as_ptr(), rank.len(), s.times.as_ptr(),
+                    s.times.len(), s.x.as_ptr(), s.x.len(), s.y.as_ptr(), s.y.len(), s.held.as_ptr(), s.held.len(),
+                    work.as_mut_ptr(), work.len(), lot, column, reply.as_mut_ptr(), reply.len(),
+                )
+            }
+        }
+
         /// {1, d, e}.
         pub fn direction(
             balanced: bool, parent: &[u32], rank: &[u32], work: &mut [u32], from: u32, to: u32, reply: &mut [i64],
@@ -193,6 +220,7 @@ calls!(
         lengthen_each = lineage_lengthen_each(mut, const; lots, counts),
         hold = lineage_hold(const, mut, lot: u32, hold: bool)
     ],
+    lineage_column,
     lineage_direction,
     lineage_post_numbers,
     lineage_check,
