@@ -88,6 +88,13 @@ macro_rules! on_lists {
                 assert!(calls::lengthen(b, &l.parent, &l.rank, s, &mut l.work, l.leaves[0], 1, &mut l.reply));
             }
 
+            /// To the column that the lot comes to by as much again as its edge goes across.
+            pub fn column(l: &mut Lists, b: bool) {
+                let s = l.sheets[usize::from(b)].read();
+                let column = 2 * s.x[l.lot as usize] - s.x[l.parent[l.lot as usize] as usize];
+                assert!(calls::column(b, &l.parent, &l.rank, s, &mut l.work, l.lot, column, &mut l.reply));
+            }
+
             pub fn hold(l: &mut Lists, b: bool) {
                 let s = l.sheets[usize::from(b)].lent();
                 assert!(calls::hold(b, &l.parent, &l.rank, s, &mut l.work, l.lot, true, &mut l.reply));
@@ -123,8 +130,8 @@ macro_rules! on_lists {
 on_lists!(proved, lineage::raw);
 on_lists!(plain, super::plain_c);
 
-/// The lists that the calls work on: a table with a sheet under each rule, steep first, the lot that is stretched and
-/// held, and the leaves that are lengthened in one call.
+/// The lists that the calls work on: a table with a sheet under each rule, steep first, the lot that is stretched,
+/// aligned and held, and the leaves that are lengthened in one call.
 #[derive(Clone, PartialEq)]
 struct Lists {
     parent: Vec<u32>,
@@ -327,7 +334,7 @@ impl Summary {
     fn balanced_over_steep(&self, n: usize) {
         println!("\nbalanced over steep, {n} lots:\n\n| Call | {} | median |", SHAPES.join(" | "));
         println!("|---|{}---|", "---|".repeat(SHAPES.len()));
-        for call in ["layout", "lengthen", "shorten", "hold", "direction"] {
+        for call in ["layout", "lengthen", "column", "shorten", "hold", "direction"] {
             let ratios: Vec<_> =
                 self.over_steep.iter().filter(|o| (o.call, o.n) == (call, n)).map(|o| o.ratio).collect();
             let shown: Vec<_> = ratios.iter().map(|(ratio, least)| format!("{ratio:.2} ({least:.2})")).collect();
@@ -375,13 +382,14 @@ fn choose_lot(l: &mut Lists) {
     }
 }
 
-/// The calls that lay out, stretch and hold, and the direction, under both rules.
+/// The calls that lay out, stretch, align and hold, and the direction, under both rules.
 fn ruled_calls(summary: &mut Summary, rounds: usize, trees: &mut [Lists], shape: &str) {
     let mut time = |call, trees: &mut [Lists], calls| {
         summary.ruled(call, shape, trees[0].lots(), &in_turn(rounds, trees, &BOTH, calls));
     };
     time("layout", trees, [proved::layout, plain::layout]);
     time("lengthen", trees, [proved::lengthen, plain::lengthen]);
+    time("column", trees, [proved::column, plain::column]);
     for l in &mut *trees {
         BOTH.iter().for_each(|&b| plain::lengthen(l, b));
     }
