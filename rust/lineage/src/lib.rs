@@ -498,6 +498,42 @@ impl Sheet {
         })
     }
 
+    /// The count by which [`lengthen`](Sheet::lengthen) brings a lot to a column: its x is the column then. `None`
+    /// where no count does: the column is left of the lot, the gap between them is no multiple of the slope's across
+    /// part, some place would be beyond the cabinet's edge, or the line is held, also where the lot stands in the
+    /// column already. Nothing moves.
+    ///
+    /// The small cabinet has no such call. The large one's count is the answer there where the small cabinet's own
+    /// lengthen, tried on a copy, accepts it; otherwise it is `None`. That this is so is proved.
+    ///
+    /// ```
+    /// use lineage::{Call, Refused, Rule, Sheet, Tree};
+    ///
+    /// let tree = Tree::new(vec![0, 0, 0, 1, 1], vec![0, 0, 1, 0, 1])?;
+    /// let mut sheet = Sheet::new(tree, Rule::Balanced)?;
+    /// assert_eq!(sheet.x(), [0, 3, 1, 6, 5]);
+    /// assert_eq!(sheet.column(1, 3)?, Some(0));
+    /// assert_eq!(sheet.column(1, 9)?, Some(2));
+    /// assert_eq!(sheet.column(1, 8)?, None); // it goes 3 across
+    /// assert_eq!(sheet.column(1, 0)?, None);
+    /// assert_eq!(sheet.column(1, 2_147_483_646)?, None); // lot 3 would be beyond
+    /// assert_eq!(sheet.column(0, 0), Err(Refused { call: Call::Column, number: 10, lot: 0 }));
+    ///
+    /// sheet.lengthen(1, 2)?;
+    /// assert_eq!(sheet.x(), [0, 9, 1, 12, 11]);
+    /// sheet.hold(1)?;
+    /// assert_eq!(sheet.column(1, 9)?, None);
+    /// # Ok::<(), Refused>(())
+    /// ```
+    pub fn column(&self, lot: u32, column: u32) -> Result<Option<u32>, Refused> {
+        let Tree { parent, rank } = &self.tree;
+        let (balanced, lists, mut work) = (self.rule.balanced(), self.lists.read(), vec![0; self.work.len()]);
+        let (case, count, _) =
+            asked(Call::Column, |reply| raw::column(balanced, parent, rank, lists, &mut work, lot, column, reply))?;
+        let accepted = |&count: &u32| self.cabinet == Cabinet::Large || self.clone().lengthen(lot, count).is_ok();
+        Ok((case == 1).then_some(count as u32).filter(accepted))
+    }
+
     /// Lengthens a list of lots, each by its count, as [`lengthen`](Sheet::lengthen) called for one after another
     /// would; on the large cabinet in much less time, as the small one has no such call. It stops at the first that is
     /// refused: those before it stand.

@@ -13,6 +13,8 @@ pub enum Call {
     Lengthen,
     /// [`Sheet::shorten`](crate::Sheet::shorten).
     Shorten,
+    /// [`Sheet::column`](crate::Sheet::column).
+    Column,
     /// [`Sheet::hold`](crate::Sheet::hold) and [`Sheet::free`](crate::Sheet::free).
     Hold,
     /// [`direction`](crate::direction()).
@@ -34,6 +36,7 @@ impl fmt::Display for Call {
             Call::Open => "the sheet",
             Call::Lengthen => "lengthen",
             Call::Shorten => "shorten",
+            Call::Column => "column",
             Call::Hold => "hold",
             Call::Direction => "direction",
             Call::PostNumbers => "post numbers",

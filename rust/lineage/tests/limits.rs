@@ -58,6 +58,27 @@ fn lists_of_lengthens() {
     assert_eq!((sheet.times()[1], sheet.frame().width), (MAX_PLACE, MAX_PLACE + 1));
 }
 
+/// Lots of the most lots are brought to columns, and one of two to the last column of each cabinet.
+#[test]
+fn columns() {
+    let mut sheet = Sheet::new(star(MAX_LOTS).unwrap(), Rule::Balanced).unwrap();
+    for lot in [1, MAX_LOTS - 1] {
+        let across = sheet.x()[lot as usize];
+        assert_eq!(sheet.column(lot, 3 * across), Ok(Some(2)));
+        sheet.lengthen(lot, 2).unwrap();
+        assert_eq!(sheet.column(lot, 3 * across), Ok(Some(0)));
+        assert_eq!(sheet.column(lot, 3 * across - 1), Ok(None));
+    }
+    assert_eq!((number(sheet.column(MAX_LOTS, 1)), number(sheet.column(0, 0))), (9, 10));
+
+    for cabinet in Cabinet::ALL {
+        let sheet = Sheet::new_in(star(2).unwrap(), Rule::Steep, cabinet).unwrap();
+        let most = cabinet.max_place();
+        assert_eq!(sheet.column(1, most), Ok(Some(most - 1)));
+        assert_eq!((sheet.column(1, most + 1), sheet.column(1, u32::MAX)), (Ok(None), Ok(None)));
+    }
+}
+
 /// The balanced slopes (across, up) of k levels between two neighbours, in order.
 fn levels(k: u32, left: (u32, u32), right: (u32, u32)) -> Vec<(u32, u32)> {
     if k == 0 {
@@ -126,6 +147,7 @@ fn lots_on_the_small_cabinet() {
         for lot in [0, 1, SMALL_LOTS - 1, SMALL_LOTS] {
             assert_eq!(small.lengthen(lot, 1), large.lengthen(lot, 1));
             assert_eq!(small.shorten(lot, 2), large.shorten(lot, 2));
+            assert_eq!(small.column(lot, 60), large.column(lot, 60));
             assert_eq!(small.hold(lot), large.hold(lot));
             assert_eq!(small.lengthen(lot, 0), large.lengthen(lot, 0));
         }
