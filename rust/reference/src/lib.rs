@@ -406,6 +406,44 @@ pub fn shorten(
     frame(s)
 }
 
+/// The count by which lengthen brings the lot to the column. Its x grows with the count, so the least count that brings
+/// it that far is found by halves, and lengthen is asked on a copy whether that one does it.
+#[allow(clippy::too_many_arguments)]
+pub fn column(
+    limits: Limits,
+    balanced: bool,
+    parent: &[u32],
+    rank: &[u32],
+    s: &Sheet,
+    work: usize,
+    lot: u32,
+    column: u32,
+) -> Reply {
+    let slopes = match open(limits, balanced, parent, rank, s, work, lot) {
+        Ok((_, slopes)) => slopes,
+        Err(r) => return refused(r),
+    };
+    let v = lot as usize;
+    let falls_short = |count: u32| s.x[v] as i128 + slopes[v].0 * (count as i128) < column as i128;
+    // each count goes at least 1 across, so as many as the column are enough
+    let (mut least, mut enough) = (0, column);
+    while least < enough {
+        let middle = least + (enough - least) / 2;
+        if falls_short(middle) {
+            least = middle + 1;
+        } else {
+            enough = middle;
+        }
+    }
+    let mut there = s.clone();
+    let reply = lengthen(limits, balanced, parent, rank, &mut there, work, lot, least);
+    if reply[0] == 1 && there.x[v] == column {
+        [1, least.into(), 0]
+    } else {
+        [2, 0, 0]
+    }
+}
+
 /// Lengthens each of the lots by its count, in order, up to the first that is refused.
 #[allow(clippy::too_many_arguments)]
 pub fn lengthen_each(
@@ -636,6 +674,29 @@ mod tests {
         assert_eq!(each(&[1; 4], &[1], &[]), ([0, 3, 0, 0], vec![1; 5]));
         assert_eq!(each(&rank, &[1, 3], &[2, 1]), ([1, 6, 12, 0], vec![1, 3, 1, 2, 1]));
         assert_eq!(each(&rank, &[1, 0, 3], &[2, 1, 1]), ([0, 10, 0, 2], vec![1, 5, 1, 2, 1]));
+    }
+
+    #[test]
+    fn columns_of_the_five_lots() {
+        let (parent, rank) = ([0, 0, 0, 1, 1], [0, 0, 1, 0, 1]);
+        let mut s = Sheet::made(|| vec![7; 5]);
+        layout(LARGE, true, &parent, &rank, &mut s, 20);
+        assert_eq!((&s.x[..], &s.y[..]), (&[0, 3, 1, 6, 5][..], &[0, 2, 1, 3, 3][..]));
+        let asked = |limits, s: &Sheet, lot, at| column(limits, true, &parent, &rank, s, 20, lot, at);
+        for (at, count) in [(3, 0), (6, 1), (9, 2), (2_147_483_643, 715_827_880)] {
+            assert_eq!(asked(LARGE, &s, 1, at), [1, count, 0]);
+        }
+        // lot 3 is 3 farther out than lot 1
+        for at in [0, 2, 4, 5, 2_147_483_644, 2_147_483_646, 2_147_483_648, u32::MAX] {
+            assert_eq!(asked(LARGE, &s, 1, at), [2, 0, 0]);
+        }
+        assert_eq!((asked(LARGE, &s, 0, 0), asked(LARGE, &s, 5, 3)), ([0, 10, 0], [0, 9, 0]));
+        // 1,048,575 is 3 times 349,525
+        assert_eq!((asked(SMALL, &s, 1, 1_048_572), asked(SMALL, &s, 1, 1_048_575)), ([1, 349_523, 0], [2, 0, 0]));
+        s.held[1] = 1;
+        assert_eq!((asked(LARGE, &s, 1, 3), asked(LARGE, &s, 3, 9)), ([2, 0, 0], [1, 1, 0]));
+        s.x[4] = 6;
+        assert_eq!(asked(LARGE, &s, 5, 3), [0, 8, 4]);
     }
 
     #[test]
