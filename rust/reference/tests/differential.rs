@@ -25,6 +25,11 @@ fn lists(s: &mut Sheet) -> raw::Lists<&mut [u32]> {
     raw::Lists { times: &mut s.times, x: &mut s.x, y: &mut s.y, held: &mut s.held }
 }
 
+/// The same for a call that only reads them.
+fn read(s: &Sheet) -> raw::Lists<&[u32]> {
+    raw::Lists { times: &s.times, x: &s.x, y: &s.y, held: &s.held }
+}
+
 /// A cabinet: its limits, and the calls that it has of its own.
 struct Cabinet {
     limits: Limits,
@@ -308,6 +313,134 @@ fn small_as_large() {
     assert!(beyond.iter().all(|&count| count > 0) || calls() < 10_000);
 }
 
+/// A column for a lot: its own, one that a count brings it to, often where its subtree has just room, one beside that,
+/// one to its left, or any.
+fn column_of(
+    random: &mut Random,
+    limits: Limits,
+    balanced: bool,
+    parent: &[u32],
+    rank: &[u32],
+    s: &Sheet,
+    lot: u32,
+) -> u32 {
+    let v = lot as usize;
+    if v >= parent.len() {
+        return random.number();
+    }
+    let lots = reference::accept_lists(parent, rank).map_or(vec![v], |tree| tree.subtree(v));
+    let of = |list: &[u32]| lots.iter().map(|&z| list[z]).collect::<Vec<u32>>();
+    let below = Sheet { x: of(&s.x), y: of(&s.y), ..s.clone() };
+    let slope = slope_of(balanced, parent, rank, lot);
+    let x = i128::from(s.x[v]);
+    let there = x + slope.0 * i128::from(random.count(limits, &below, slope));
+    let near = random.below(5) as i128 - 2;
+    let column = match random.below(8) {
+        0 => x,
+        1 => there + near,
+        2 => limits.place + x - i128::from(*below.x.iter().max().unwrap()) + near,
+        3 => random.below(s.x[v] as usize) as i128,
+        4 => random.number().into(),
+        _ => there,
+    };
+    column.clamp(0, u32::MAX.into()) as u32
+}
+
+/// A count, or why there is none: the line is held, or one of the other grounds, of which no two go together.
+fn outcome(balanced: bool, parent: &[u32], rank: &[u32], s: &Sheet, lot: u32, column: u32) -> &'static str {
+    let answer = |s: &Sheet| reference::column(LARGE, balanced, parent, rank, s, 4 * parent.len(), lot, column);
+    let freed = Sheet { held: vec![0; parent.len()], ..s.clone() };
+    let gap = i128::from(column) - i128::from(s.x[lot as usize]);
+    match (answer(s), answer(&freed)) {
+        ([1, 0, _], _) => "a count of 0",
+        ([1, ..], _) => "a count",
+        (_, [1, 0, _]) => "held where it stands",
+        (_, [1, ..]) => "held",
+        _ if s.held[lot as usize] == 1 => "held, and another",
+        _ if gap < 0 => "left",
+        _ if gap % slope_of(balanced, parent, rank, lot).0 != 0 => "no multiple",
+        _ if i128::from(column) > LARGE.place => "the column beyond",
+        _ => "another place beyond",
+    }
+}
+
+/// Columns on random sheets, and where there is a count, lengthen brings the lot there.
+#[test]
+fn column() {
+    let mut random = Random::from_environment("column");
+    let (mut tally, mut outcomes) = (Tally::default(), std::collections::BTreeMap::new());
+    for i in 0..calls() {
+        let (parent, mut rank) = random.any_table(60);
+        let balanced = random.once_in(2);
+        let mut s = random.sheet(balanced, &parent, &rank);
+        let lot = lot_of(&mut random, parent.len());
+        let column = column_of(&mut random, LARGE, balanced, &parent, &rank, &s, lot);
+        lend_sheet(&mut random, &mut s);
+        lend(&mut random, &mut rank);
+        let said = format!("call {i}: column({balanced}, {parent:?}, {rank:?}, {s:?}, {lot}, {column})");
+        let (before, mut lent) = (s.clone(), Lent::new(&mut random, parent.len()));
+        let called = raw::column(balanced, &parent, &rank, read(&s), &mut lent.work, lot, column, &mut lent.reply);
+        let right = lent.right(|work| reference::column(LARGE, balanced, &parent, &rank, &before, work, lot, column));
+        lent.compare(&said, called, right, spares_work);
+        assert_eq!(s, before, "{said}");
+        tally.note(right);
+        if right[0] != 0 {
+            *outcomes.entry(outcome(balanced, &parent, &rank, &s, lot, column)).or_insert(0) += 1;
+        }
+        if let [1, count, _] = right {
+            let (l, work, reply) = (lists(&mut s), &mut lent.work[..], &mut lent.reply[..]);
+            raw::lengthen(balanced, &parent, &rank, l, work, lot, count as u32, reply);
+            assert_eq!((lent.reply[0], s.x[lot as usize]), (1, column), "{said}");
+        }
+    }
+    tally.print("column");
+    tally.has_all(&[1, 3, 4, 5, 6, 7, 8, 9, 10]);
+    println!("column: {outcomes:?}");
+    assert!(outcomes.len() == 9 || calls() < 10_000, "some outcome is never seen");
+}
+
+/// Columns on both cabinets, of sheets that the crate takes up: the small one has no call of its own for them.
+#[test]
+fn columns_of_sheets() {
+    let mut random = Random::from_environment("columns_of_sheets");
+    let (mut tally, mut beyond) = (Tally::default(), 0);
+    for i in 0..calls() {
+        let (parent, rank) = random.any_table(60);
+        let balanced = random.once_in(2);
+        let s = random.sheet(balanced, &parent, &rank);
+        let lot = lot_of(&mut random, parent.len());
+        let limits = random.one_of(&[LARGE, SMALL]);
+        let column = column_of(&mut random, limits, balanced, &parent, &rank, &s, lot);
+        let asked = |cabinet| {
+            let (tree, rule) =
+                (lineage::Tree::new(parent.clone(), rank.clone())?, lineage::Rule::ALL[balanced as usize]);
+            let Sheet { times, x, y, held } = s.clone();
+            lineage::Sheet::from_lists_in(tree, rule, cabinet, times, x, y, held)?.column(lot, column)
+        };
+        let compared = |cabinet, limits| {
+            let reply = match asked(cabinet) {
+                Ok(Some(count)) => [1, count.into(), 0],
+                Ok(None) => [2, 0, 0],
+                Err(refused) => [0, refused.number.into(), refused.lot.into()],
+            };
+            let right = reference::column(limits, balanced, &parent, &rank, &s, 4 * parent.len(), lot, column);
+            assert_eq!(
+                reply, right,
+                "call {i}: {balanced}, {parent:?}, {rank:?}, {s:?}, {lot}, {column}, {limits:?}"
+            );
+            right
+        };
+        let large = compared(lineage::Cabinet::Large, LARGE);
+        let small = compared(lineage::Cabinet::Small, SMALL);
+        tally.note(small);
+        beyond += usize::from((large[0], small[0]) == (1, 2));
+    }
+    tally.print("columns_of_sheets");
+    tally.has_all(&[1, 4, 5, 6, 7, 8, 9, 10]);
+    println!("columns_of_sheets: the large cabinet has a count and the small one none: {beyond}");
+    assert!(beyond > 0 || calls() < 10_000, "no column is beyond the small edge alone");
+}
+
 /// A list of lots and one of counts, often longer than the table: most of the lots have lines, some stand there twice,
 /// and now and then the two differ in length.
 fn lengthens(random: &mut Random, balanced: bool, parent: &[u32], rank: &[u32], s: &Sheet) -> (Vec<u32>, Vec<u32>) {
@@ -572,8 +705,8 @@ fn shaped(shape: &str, n: usize) -> (Vec<u32>, Vec<u32>) {
     std::iter::once((0, 0)).chain(other).unzip()
 }
 
-/// Layout of n lots under both rules, the last but one lengthened and shortened again, the last lot's line held, a list
-/// of lengthens that stops there, and the direction between two lots that are far apart.
+/// Layout of n lots under both rules, the last but one lengthened and shortened again, the last lot's line held, the
+/// columns of both, a list of lengthens that stops there, and the direction between two lots that are far apart.
 fn limits_of_lots(cabinet: &Cabinet, shape: &str, n: usize) {
     let (parent, rank) = shaped(shape, n);
     let limits = cabinet.limits;
@@ -592,6 +725,7 @@ fn limits_of_lots(cabinet: &Cabinet, shape: &str, n: usize) {
         let right = reference::lengthen(limits, balanced, &parent, &rank, &mut mine, 4 * n, last - 1, 2);
         assert_eq!((reply, right[0]), (right, accepted.into()), "{shape} {n} {balanced}");
         assert!(mine == theirs, "{shape} {n} {balanced}");
+        let column = mine.x[n - 2];
         (cabinet.calls.shorten)(balanced, &parent, &rank, lists(&mut theirs), &mut w, last - 1, 2, &mut reply);
         let right = reference::shorten(limits, balanced, &parent, &rank, &mut mine, 4 * n, last - 1, 2);
         assert_eq!((reply, right[0]), (right, accepted.into()), "{shape} {n} {balanced}");
@@ -600,6 +734,11 @@ fn limits_of_lots(cabinet: &Cabinet, shape: &str, n: usize) {
         let right = reference::hold(balanced, &parent, &rank, &mut mine, 4 * n, last, true);
         assert_eq!(reply, right, "{shape} {n} {balanced}");
         assert!(mine == theirs, "{shape} {n} {balanced}");
+        for (lot, column, answer) in [(last - 1, column, [1, 2, 0]), (last, mine.x[n - 1], [2, 0, 0])] {
+            raw::column(balanced, &parent, &rank, read(&theirs), &mut w, lot, column, &mut reply);
+            let right = reference::column(LARGE, balanced, &parent, &rank, &mine, 4 * n, lot, column);
+            assert_eq!((reply, right == answer), (right, accepted), "{shape} {n} {balanced}");
+        }
         let (lots, mut each) = ([last - 1, last, 1], [0; 4]);
         raw::lengthen_each(balanced, &parent, &rank, lists(&mut theirs), &mut w, &lots, &[1; 3], &mut each);
         let right = reference::lengthen_each(balanced, &parent, &rank, &mut mine, 4 * n, &lots, &[1; 3]);
