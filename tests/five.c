@@ -187,6 +187,60 @@ static void lists_of_lengthens(void)
     expect("a refusal before the first leaves all", are(times, 1, 5, 1, 1, 1) && are(y, 0, 15, 4, 16, 18));
 }
 
+static bool column(uint32_t lot, uint32_t at)
+{
+    return lineage_column(true, TABLE, SHEET, WORK, lot, at, REPLY);
+}
+
+static bool is_fresh_balanced(void)
+{
+    return are(times, 1, 1, 1, 1, 1) && are(x, 0, 3, 1, 6, 5) && are(y, 0, 2, 1, 3, 3) && are(held, 0, 0, 0, 0, 0);
+}
+
+/* Document 02's columns, on the balanced sheet, where lot 1's slope goes 3 across, and lot 3 is 3 farther out. */
+static void columns(void)
+{
+    const uint32_t most = LINEAGE_MAX_PLACE;
+    uint32_t before[20];
+    lineage_layout(true, TABLE, SHEET, WORK, REPLY);
+    memcpy(before, work, sizeof work);
+    memset(reply, -1, sizeof reply);
+    expect("a reply of two numbers", !lineage_column(true, TABLE, SHEET, WORK, 1, 3, reply, 2));
+    expect("nothing is done", replied(true, -1, -1, -1) && is_fresh_balanced());
+    expect("no lots",
+           refused(lineage_column(true, parent, 0, ranks, 0, times, 0, x, 0, y, 0, held, 0, work, 0, 1, 3, REPLY),
+                   LINEAGE_NO_LOTS, 0));
+    expect("held too short", refused(lineage_column(true, TABLE, times, 5, x, 5, y, 5, held, 4, WORK, 1, 3, REPLY),
+                                     LINEAGE_WRONG_LENGTH, 0));
+    expect("work too short",
+           refused(lineage_column(true, TABLE, SHEET, work, 19, 1, 3, REPLY), LINEAGE_WRONG_LENGTH, 0));
+    expect("the work list is as it was", memcmp(before, work, sizeof work) == 0);
+    expect("there is no lot 5", refused(column(5, 3), LINEAGE_NO_SUCH_LOT, 0));
+    expect("lot 0 has no edge", refused(column(0, 0), LINEAGE_NO_EDGE, 0));
+
+    expect("lot 1 stands there", replied(column(1, 3), 1, 0, 0));
+    expect("once more", replied(column(1, 6), 1, 1, 0));
+    expect("the gap is 2", replied(column(1, 5), 2, 0, 0));
+    expect("the gap is 1", replied(column(1, 4), 2, 0, 0));
+    expect("to the left", replied(column(1, 2), 2, 0, 0) && replied(column(1, 0), 2, 0, 0));
+    expect("as far as lot 3 can go", replied(column(1, most - 4), 1, 715827880, 0));
+    expect("lot 3 would be beyond", replied(column(1, most - 1), 2, 0, 0));
+    expect("the column is beyond", replied(column(1, most + 1), 2, 0, 0) && replied(column(1, UINT32_MAX), 2, 0, 0));
+    expect("nothing moved", is_fresh_balanced());
+
+    expect("hold lot 1", replied(lineage_hold(true, TABLE, SHEET, WORK, 1, true, REPLY), 1, 7, 4));
+    expect("it is held", replied(column(1, 6), 2, 0, 0));
+    expect("it is held where it stands", replied(column(1, 3), 2, 0, 0));
+    expect("lot 3 below it is free", replied(column(3, 12), 1, 2, 0));
+    expect("lengthen lot 3 by 2", replied(lineage_lengthen(true, TABLE, SHEET, WORK, 3, 2, REPLY), 1, 13, 6));
+    expect("it is in the column", x[3] == 12 && replied(column(3, 12), 1, 0, 0));
+
+    y[4]++;
+    expect("no sheet", refused(column(1, 3), LINEAGE_NO_SHEET, 4));
+    expect("no sheet, and no such lot", refused(column(5, 3), LINEAGE_NO_SHEET, 4));
+    expect("a refusal leaves all", are(times, 1, 1, 1, 3, 1) && are(y, 0, 2, 1, 5, 4) && are(held, 0, 1, 0, 0, 0));
+}
+
 /* Document 02's small cabinet: the same sheets up to its limits, on the steep sheet, and on two lots at its edge. */
 static void small_cabinet(void)
 {
@@ -308,6 +362,7 @@ int main(void)
     sheets();
     held_lines();
     lists_of_lengthens();
+    columns();
     small_cabinet();
     directions();
     numbers();
