@@ -119,6 +119,7 @@ _TAKES = {
     "layout": _ON_SHEET,
     "lengthen": [*_ON_SHEET, c_uint32, c_uint32],
     "shorten": [*_ON_SHEET, c_uint32, c_uint32],
+    "column": [*_ON_SHEET, c_uint32, c_uint32],
     "lengthen_each": [*_ON_SHEET, *_lists(2)],
     "hold": [*_ON_SHEET, c_uint32, c_bool],
     "small_layout": _ON_SHEET,
@@ -423,10 +424,13 @@ class Sheet:
 
     def _ask(self, call: str, *arguments: _Lent) -> Frame:
         """Makes a call, which is lent the sheet; the frame that it answers is the sheet's then."""
-        lists = self._tree._parents, self._tree._ranks, *self._lists.values(), self._work
-        _, width, height = _ask(call, self._balanced, *lists, *arguments)
+        _, width, height = self._reply(call, *arguments)
         self._frame = Frame(width, height)
         return self._frame
+
+    def _reply(self, call: str, *arguments: _Lent) -> tuple[int, int, int]:
+        lists = self._tree._parents, self._tree._ranks, *self._lists.values(), self._work
+        return _ask(call, self._balanced, *lists, *arguments)
 
     def lengthen(self, lot: int, count: int) -> Frame:
         """Makes the edge of a lot longer by count times its slope; its whole subtree moves along, held lines too."""
@@ -435,6 +439,37 @@ class Sheet:
     def shorten(self, lot: int, count: int) -> Frame:
         """Makes it shorter again, to at least one times its slope."""
         return self._ask(self._own("shorten"), _number(lot), _number(count))
+
+    def column(self, lot: int, column: int) -> Optional[int]:
+        """The count by which lengthen brings a lot to a column, its x then. None where no count does: the column is
+        left of the lot, the gap between them is no multiple of the slope's across part, some place would be beyond the
+        cabinet's edge, or the line is held, also where the lot stands in the column already. Nothing moves.
+
+        The small cabinet has no such call. The large one's count is the answer there where the small cabinet's own
+        lengthen, tried on a copy, accepts it; otherwise it is None. That this is so is proved.
+
+        >>> sheet = Sheet(Tree([0, 0, 0, 1, 1], [0, 0, 1, 0, 1]), "balanced")
+        >>> sheet.x
+        [0, 3, 1, 6, 5]
+        >>> sheet.column(1, 9)
+        2
+        >>> sheet.column(1, 8) is None  # it goes 3 across
+        True
+        >>> sheet.column(0, 9)
+        Traceback (most recent call last):
+        lineage.Refused: column refused (10): the root has no edge
+        """
+        case, count, _ = self._reply("column", _number(lot), _number(column))
+        return count if case == 1 and (not self._small or self._accepts(lot, count)) else None
+
+    def _accepts(self, lot: int, count: int) -> bool:
+        """Whether lengthen does, on a copy."""
+        copy = Sheet.from_lists(self._tree, self.rule, *self._lists.values(), cabinet=self.cabinet)
+        try:
+            copy.lengthen(lot, count)
+        except Refused:
+            return False
+        return True
 
     def lengthen_each(self, lengthens: Iterable[tuple[int, int]]) -> Frame:
         """Lengthens a list of lots, each by its count, as lengthen called for one after another would; on the large

@@ -116,6 +116,51 @@ class BesidePython(unittest.TestCase):
             places.add(reply[3])
         self.assertTrue(places >= {0, 1, 2, 3}, places)
 
+    def column(self, plain, lot):
+        """A column for a lot: one that a count brings it to, often as far as there is room, or beside that."""
+        if not 0 < lot < plain.tree.n:
+            return self.draw.randrange(2**32)
+        below, (across, up), most = plain.tree.down(lot), plain.slope[lot], plain.limits.place
+        room = min((most - max(plain.x[z] for z in below)) // across, (most - max(plain.y[z] for z in below)) // up)
+        count = self.draw.choice([-1, 0, 0, 1, 5, 1000, room, room + 1, 2**31])
+        beside = plain.x[lot] + count * across + self.draw.choice([0, 0, 0, -1, 1])
+        return min(max(beside, 0), 2**32 - 1)
+
+    def plain_column(self, plain, lot, column):
+        """The reply of plain Python: the count that makes the gap, which lengthen tries, and shorten undoes."""
+        refused = plain.refusal(lot)
+        if refused:
+            return refused
+        count, rest = divmod(column - plain.x[lot], plain.slope[lot][0])
+        if count < 0 or rest or plain.move(1, lot, count)[0] == 0:
+            return (2, 0, 0)
+        plain.move(0, lot, count)
+        return (1, count, 0)
+
+    def test_columns(self):
+        seen = set()
+        for _ in range(300):
+            lists = random_tree(self.draw)
+            rule, n, cabinet = self.draw.randrange(2), len(lists[0]), self.draw.choice(list(CABINETS))
+            sheet = Sheet(Tree(*lists), RULES[rule], cabinet)
+            plain = cases.Sheet(cases.Tree(*lists), rule, CABINETS[cabinet])
+            for _ in range(15):
+                lot, count = self.lengthen(n)
+                self.assertEqual(self.reply(sheet.lengthen, lot, count), plain.move(1, lot, count))
+                lot, held = self.draw.randrange(n + 1), self.draw.randrange(2)
+                self.assertEqual(self.reply(sheet.hold if held else sheet.free, lot), plain.hold(lot, held))
+                lot = self.draw.randrange(n + 1)
+                column = self.column(plain, lot)
+                try:
+                    count = sheet.column(lot, column)
+                    reply = (2, 0, 0) if count is None else (1, count, 0)
+                except Refused as refused:
+                    reply = (0, refused.number, refused.lot)
+                self.assertEqual(reply, self.plain_column(plain, lot, column))
+                self.same(sheet, plain)
+                seen.add((cabinet, *reply[:2]) if reply[0] == 0 else (cabinet, reply[0]))
+        self.assertEqual(seen, {(cabinet, *reply) for cabinet in CABINETS for reply in ((0, 9), (0, 10), (1,), (2,))})
+
     def test_checks(self):
         seen = set()
         for _ in range(1000):
@@ -231,6 +276,23 @@ class Refusals(unittest.TestCase):
             self.assertEqual((type(stopped), stopped.place, stopped.call), (Stopped, 3, "lengthen"))
             self.assertEqual((sheet.times[3], sheet.frame.width), (before + 1, sheet.x[3] + 1))
 
+    def test_columns(self):
+        sheet, fresh = Sheet(Tree(*FIVE), "balanced"), Sheet(Tree(*FIVE), "balanced")
+        for column, count in (3, 0), (6, 1), (9, 2), (2147483643, 715827880):
+            self.assertEqual(sheet.column(1, column), count)
+        for column in 0, 2, 4, 5, 2147483646, 2147483648, 2**32 - 1:  # lot 3 is 3 farther out than lot 1
+            self.assertIsNone(sheet.column(1, column))
+        self.assertEqual(self.refused(9, 0, sheet.column, 5, 3).call, "column")
+        self.refused(10, 0, sheet.column, 0, 0)
+        self.assertEqual((sheet, sheet.frame), (fresh, fresh.frame))
+        sheet.hold(1)
+        self.assertEqual((sheet.column(1, 3), sheet.column(1, 6), sheet.column(3, 9)), (None, None, 1))
+        most = lineage.SMALL_PLACE
+        large, small = (Sheet(Tree([0, 0], [0, 0]), "steep", cabinet) for cabinet in CABINETS)
+        self.assertEqual((large.column(1, most), large.column(1, most + 1)), (most - 1, most))
+        self.assertEqual((small.column(1, most), small.column(1, most + 1)), (most - 1, None))
+        self.assertEqual((small, small.frame), (large, (2, 2)))
+
     def test_the_small_cabinet(self):
         star = [Tree([0] * n, [0, *range(n - 1)]) for n in (1024, 1025, 65_536)]
         for rule in RULES:
@@ -345,7 +407,7 @@ class WrongValues(unittest.TestCase):
         sheet = Sheet(Tree(*FIVE), "balanced")
         lineage._ask = self.never
         for wrong, error in ("1", ValueError), (1.0, ValueError), (-1, OverflowError), (2**32, OverflowError):
-            for call in sheet.lengthen, sheet.shorten, sheet.direction:
+            for call in sheet.lengthen, sheet.shorten, sheet.column, sheet.direction:
                 self.assertRaises(error, call, wrong, 1)
                 self.assertRaises(error, call, 1, wrong)
             for call in sheet.hold, sheet.free, sheet.place:
