@@ -126,17 +126,6 @@ class BesidePython(unittest.TestCase):
         beside = plain.x[lot] + count * across + self.draw.choice([0, 0, 0, -1, 1])
         return min(max(beside, 0), 2**32 - 1)
 
-    def plain_column(self, plain, lot, column):
-        """The reply of plain Python: the count that makes the gap, which lengthen tries, and shorten undoes."""
-        refused = plain.refusal(lot)
-        if refused:
-            return refused
-        count, rest = divmod(column - plain.x[lot], plain.slope[lot][0])
-        if count < 0 or rest or plain.move(1, lot, count)[0] == 0:
-            return (2, 0, 0)
-        plain.move(0, lot, count)
-        return (1, count, 0)
-
     def test_columns(self):
         seen = set()
         for _ in range(300):
@@ -156,7 +145,7 @@ class BesidePython(unittest.TestCase):
                     reply = (2, 0, 0) if count is None else (1, count, 0)
                 except Refused as refused:
                     reply = (0, refused.number, refused.lot)
-                self.assertEqual(reply, self.plain_column(plain, lot, column))
+                self.assertEqual(reply, plain.column(lot, column))
                 self.same(sheet, plain)
                 seen.add((cabinet, *reply[:2]) if reply[0] == 0 else (cabinet, reply[0]))
         self.assertEqual(seen, {(cabinet, *reply) for cabinet in CABINETS for reply in ((0, 9), (0, 10), (1,), (2,))})

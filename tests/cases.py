@@ -3,7 +3,7 @@
 slopes of 1 to 16 levels with their levels less 1.
 
 Written from document 01 (tree table, traversal, slopes, layout, lengthen, shorten, check, refusals) and document 02
-(frames, levels, held lines, the small cabinet's limits), not from the Rattle code. It takes a minute or two.
+(frames, levels, held lines, columns, the small cabinet's limits), not from the Rattle code. It takes a minute or two.
     python3 tests/cases.py > crates/cases/stdout
 """
 from typing import NamedTuple
@@ -107,6 +107,11 @@ class Sheet:
         self.held[v] = yes
         return self.frame()
 
+    def too_far(self, lots, across, up):
+        """Whether a shift by (across, up) would bring one of the lots beyond the largest place."""
+        most = self.limits.place
+        return any(self.x[z] + across > most or self.y[z] + up > most for z in lots)
+
     def move(self, longer, v, c):
         refused = self.refusal(v)
         if refused:
@@ -118,8 +123,7 @@ class Sheet:
         d = c if longer else -c
         across, up = d * self.slope[v][0], d * self.slope[v][1]
         lots = self.tree.down(v)
-        most = self.limits.place
-        if longer and any(self.x[z] + across > most or self.y[z] + up > most for z in lots):
+        if longer and self.too_far(lots, across, up):
             return (0, self.limits.beyond, v)
         self.times[v] += d
         for z in lots:
@@ -134,6 +138,17 @@ class Sheet:
             if answer[0] == 0:
                 return (*answer, 0 if self.too_many() else place)
         return (*self.frame(), 0)
+
+    def column(self, v, column):
+        """1 and the count by which lengthen brings v to the column, 2 where no count does, or 0 and the refusal."""
+        refused = self.refusal(v)
+        if refused:
+            return refused
+        across, up = self.slope[v]
+        count, rest = divmod(column - self.x[v], across)
+        if count < 0 or rest or self.too_far(self.tree.down(v), count * across, count * up) or self.held[v]:
+            return (2, 0, 0)
+        return (1, count, 0)
 
 
 def wider(cone, e, f):
@@ -234,6 +249,12 @@ def case(shape, relabelled, rule, n):
         answer = sheet.hold(v, c) if kind == 2 else sheet.move(kind, v, c)
         show(kind, v, c, *answer, *whole(sheet))
     show(*sheet.lengthen_each([(n // 4, 1), (half, 10), (n // 4, 2), (last, 1), (half, 1)]), *whole(sheet))
+    a, b = sheet.x[half], sheet.x[last]
+    for v, c in [  # columns, which move nothing; the last lot is held
+        (half, a), (half, a + 1), (half, a + 2520), (half, (a - 1) % 2**32), (half, 2147483647), (half, 2147483648),
+        (last, b), (0, 0), (n, 0),
+    ]:
+        show(v, c, *sheet.column(v, c), *whole(sheet))
     for k in reversed(range(32)):  # the middle lot as far as it goes
         sheet.move(1, half, 2**k)
     show(1, half, 1, *sheet.move(1, half, 1), *whole(sheet))

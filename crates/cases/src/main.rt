@@ -1,13 +1,15 @@
 // The walks to all balanced slopes of 1 to 16 levels, a line for each number of levels; then large trees of several
-// shapes under both rules: layout, a list of calls and the check, with a line for each answer.
+// shapes under both rules: layout, a list of calls, columns and the check, with a line for each answer.
 //
 // Each line ends with its lists, each mixed into one number: three, or the four of a sheet. What is printed is compared
 // with the output of tests/cases.py, which makes the same calls in plain Python.
+use aligning::Aligned;
 use arranging::Arranged;
 use drawing::Framed;
 use monotone::Verdict;
 use slopes::Rule;
 use std::num::wrapping_add_u32;
+use std::num::wrapping_sub_u32;
 use std::num::wrapping_sub_usize;
 ghost use Prim.Native.Nat.{_≤_};
 
@@ -24,6 +26,12 @@ struct Call {
     kind: u32,
     node: u32,
     count: u32,
+}
+
+// A lot, and the column that it is to come to.
+struct Goal {
+    lot: u32,
+    column: u32,
 }
 
 // The number at an index, 0 where there is none.
@@ -415,7 +423,83 @@ fn arrange(
     show_sheet(times, x, y, held);
 }
 
-// A list of lengthens, and the edge of the middle node lengthened as far as it goes.
+// 1 and the count, 2 where no count brings the lot there, or 0 and the refusal.
+fn show_aligned(answer: Aligned) {
+    match answer {
+        Aligned::Count(count) => show_three(1, count, 0),
+        Aligned::None => show_three(2, 0, 0),
+        Aligned::Refused(number, lot) => show_three(0, number, lot),
+    }
+}
+
+// One column, its answer, and the sheet, in which nothing has moved.
+fn show_column(
+    goal: Goal,
+    rule: Rule,
+    parent: &[u32],
+    rank: &[u32],
+    times: &[u32],
+    x: &[u32],
+    y: &[u32],
+    held: &[u32],
+    work: &mut [u32],
+) {
+    let lot = goal.lot;
+    let column = goal.column;
+    show(lot);
+    show(column);
+    let answer = aligning::column(rule, parent, rank, times, x, y, held, work, lot, column);
+    show_aligned(answer);
+    show_sheet(times, x, y, held);
+}
+
+fn to(lot: u32, column: u32) -> Goal {
+    Goal {
+        lot: lot,
+        column: column,
+    }
+}
+
+// The i-th column on a drawing of n nodes: a is the middle one's x, and b that of `last`, which is held. 2520 is a
+// multiple of every number up to 10, and so often of the slope's across part.
+fn goal_at(i: usize, n: u32, last: u32, a: u32, b: u32) -> Goal {
+    match i {
+        0 => to(n / 2, a),
+        1 => to(n / 2, wrapping_add_u32(a, 1)),
+        2 => to(n / 2, wrapping_add_u32(a, 2520)),
+        3 => to(n / 2, wrapping_sub_u32(a, 1)),
+        4 => to(n / 2, 2147483647),
+        5 => to(n / 2, 2147483648),
+        6 => to(last, b),
+        7 => to(0, 0),
+        _ => to(n, 0),
+    }
+}
+
+// The list of columns: some that a count reaches, some that none does, and refused ones.
+fn columns(
+    rule: Rule,
+    parent: &[u32],
+    rank: &[u32],
+    times: &[u32],
+    x: &[u32],
+    y: &[u32],
+    held: &[u32],
+    work: &mut [u32],
+) {
+    let n = (parent.len() % 4294967296) as u32;
+    let last = (before(parent.len()) % 4294967296) as u32;
+    let a = look(x, parent.len() / 2);
+    let b = look(x, before(parent.len()));
+    let mut i = 0;
+    while i < 9 {
+        let asked = goal_at(i, n, last, a, b);
+        show_column(asked, rule, parent, rank, times, x, y, held, work);
+        i += 1;
+    }
+}
+
+// A list of lengthens, the columns, and the edge of the middle node lengthened as far as it goes.
 fn arrange_and_reach(
     rule: Rule,
     parent: &[u32],
@@ -427,6 +511,7 @@ fn arrange_and_reach(
     work: &mut [u32],
 ) {
     arrange(rule, parent, rank, times, x, y, held, work);
+    columns(rule, parent, rank, times, x, y, held, work);
     let middle = (parent.len() / 2 % 4294967296) as u32;
     reach(middle, rule, parent, rank, times, x, y, held, work);
 }
