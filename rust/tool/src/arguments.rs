@@ -49,9 +49,12 @@ static LENGTHEN: Opt = repeated(
     "--lengthen",
     "LOT:COUNT",
     ANY,
-    "make the line of a lot longer; may be given again, and mixed with --shorten, --hold and --free, in order",
+    "make the line of a lot longer; may be given again, and mixed with --shorten, --column, --hold and --free, in \
+     order",
 );
 static SHORTEN: Opt = repeated("--shorten", "LOT:COUNT", ANY, "make it shorter");
+static COLUMN: Opt =
+    repeated("--column", "LOT:X", ANY, "make it longer so that the lot stands at x = X, or say why not");
 static HOLD: Opt = repeated(
     "--hold",
     "LOT",
@@ -73,7 +76,7 @@ static PLACES: Opt = Opt {
     value: "FILE",
     help: "check these places, a line of x and y for each lot, and not the sheet's",
     most: 1,
-    not_with: &["--rule", "--sheet", "--small", "--lengthen", "--shorten", "--hold", "--free"],
+    not_with: &["--rule", "--sheet", "--small", "--lengthen", "--shorten", "--column", "--hold", "--free"],
 };
 static BACK: Opt = option("--back", "", "turn a tree file, with the names beside it, into an outline");
 
@@ -85,8 +88,8 @@ pub static COMMANDS: [Command; 9] = [
         about: "A lot's number stands only where it cannot be taken for another lot's; the caption says how many are \
                 left out. Every dot has a title with its lot, name, parent and place. A held line is heavy and black.",
         options: &[
-            &RULE, &SHEET, &SMALL, &LENGTHEN, &SHORTEN, &HOLD, &FREE, &PATH, &MARK, &ROOT, &DEPTH, &TITLE, &PAGE,
-            &TO_SCALE, &OUT,
+            &RULE, &SHEET, &SMALL, &LENGTHEN, &SHORTEN, &COLUMN, &HOLD, &FREE, &PATH, &MARK, &ROOT, &DEPTH, &TITLE,
+            &PAGE, &TO_SCALE, &OUT,
         ],
     },
     Command {
@@ -96,7 +99,7 @@ pub static COMMANDS: [Command; 9] = [
         about: "The text can be taken up again by --sheet. Its first line names the rule, the number of lots and the \
                 frame in grid cells, its second the columns. held is 1 for a lot whose line is held; a file without \
                 that column, as versions before 0.5 wrote it, holds none.",
-        options: &[&RULE, &SHEET, &SMALL, &LENGTHEN, &SHORTEN, &HOLD, &FREE, &OUT],
+        options: &[&RULE, &SHEET, &SMALL, &LENGTHEN, &SHORTEN, &COLUMN, &HOLD, &FREE, &OUT],
     },
     Command {
         name: "check",
@@ -104,7 +107,7 @@ pub static COMMANDS: [Command; 9] = [
         summary: "whether the sheet, or a drawing of your own, is monotone",
         about: "Prints 'Monotone', or 'Turns U V' with the first pair of lots that has no direction; the status is 1 \
                 then.",
-        options: &[&RULE, &SHEET, &SMALL, &LENGTHEN, &SHORTEN, &HOLD, &FREE, &PLACES],
+        options: &[&RULE, &SHEET, &SMALL, &LENGTHEN, &SHORTEN, &COLUMN, &HOLD, &FREE, &PLACES],
     },
     Command {
         name: "direction",

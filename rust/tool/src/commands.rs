@@ -1,6 +1,7 @@
 //! The commands: what each reads, asks of the library and writes.
 
 use crate::arguments::{self, number, two, Given};
+use crate::column;
 use crate::draw;
 use crate::files::{self, Content, Source};
 use crate::page::Page;
@@ -8,7 +9,7 @@ use crate::plan::Ask;
 use crate::sheetfile::{self, Saved, Words};
 use crate::stop::{misuse, refused, Stop, REFUSED};
 use crate::{completion, help, manual, outline};
-use lineage::{check, Cabinet, Frame, PostNumbers, Rule, Sheet, Stopped, Verdict};
+use lineage::{check, Cabinet, Frame, PostNumbers, Rule, Sheet, Verdict};
 use std::ffi::OsStr;
 use std::io::Write;
 
@@ -60,7 +61,8 @@ struct Change<'a> {
     option: &'static str,
     value: &'a OsStr,
     lot: u32,
-    count: u32,
+    /// The number behind the lot, a count or a column; 0 where none is taken.
+    second: u32,
 }
 
 impl Change<'_> {
@@ -72,28 +74,30 @@ impl Change<'_> {
 /// The options that ask for calls, in the order that they are given in.
 fn changes(given: &Given) -> Result<Vec<Change<'_>>, Stop> {
     let change = |(option, value)| {
-        let (lot, count) = match option {
+        let (lot, second) = match option {
             "--hold" | "--free" => (number(option, value)?, 0),
             _ => two(option, value)?,
         };
-        Ok(Change { option, value, lot, count })
+        Ok(Change { option, value, lot, second })
     };
-    given.all(&["--lengthen", "--shorten", "--hold", "--free"]).map(change).collect()
+    given.all(&["--lengthen", "--shorten", "--column", "--hold", "--free"]).map(change).collect()
 }
 
-/// The call for options one after another, which are more than one only where they all lengthen.
-fn make_call(sheet: &mut Sheet, run: &[Change]) -> Result<Frame, Stopped> {
-    let Change { option, lot, count, .. } = run[0];
+/// The call for options one after another, which are more than one only where they all lengthen. Where it is not made,
+/// the place of the option among them, from 1, and why.
+fn make_call(sheet: &mut Sheet, run: &[Change]) -> Result<Frame, (usize, String)> {
+    let Change { option, lot, second, .. } = run[0];
     let called = match option {
         "--lengthen" => {
-            let lengthens: Vec<(u32, u32)> = run.iter().map(|change| (change.lot, change.count)).collect();
-            return sheet.lengthen_each(&lengthens);
+            let lengthens: Vec<(u32, u32)> = run.iter().map(|change| (change.lot, change.second)).collect();
+            return sheet.lengthen_each(&lengthens).map_err(|stopped| (stopped.place, stopped.refused.to_string()));
         }
-        "--shorten" => sheet.shorten(lot, count),
+        "--column" => return column::bring(sheet, lot, second).map_err(|why| (1, why)),
+        "--shorten" => sheet.shorten(lot, second),
         "--hold" => sheet.hold(lot),
         _ => sheet.free(lot),
     };
-    called.map_err(|refused| Stopped { place: 1, refused })
+    called.map_err(|refused| (1, refused.to_string()))
 }
 
 /// An option as it was given, and which of its name it is where there are more.
@@ -115,9 +119,8 @@ fn asked(given: &Given) -> Result<(Sheet, Vec<String>), Stop> {
     let (mut sheet, names) = opened(given, source)?;
     let mut made = 0;
     for run in changes.chunk_by(|a, b| a.lengthens() && b.lengthens()) {
-        make_call(&mut sheet, run).map_err(|stopped| {
-            refused(format!("{file}: {}", told(&changes, made + stopped.place - 1)))(stopped.refused)
-        })?;
+        make_call(&mut sheet, run)
+            .map_err(|(place, why)| refused(format!("{file}: {}", told(&changes, made + place - 1)))(why))?;
         made += run.len();
     }
     Ok((sheet, names))

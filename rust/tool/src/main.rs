@@ -3,6 +3,7 @@
 #![cfg_attr(not(test), no_main)]
 
 mod arguments;
+mod column;
 mod commands;
 mod completion;
 mod draw;

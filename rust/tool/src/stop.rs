@@ -1,6 +1,6 @@
 //! Why the tool stops: a message for standard error, and the exit status.
 
-use lineage::Refused;
+use std::fmt::Display;
 
 /// Refused by the library, or the check found a pair that turns.
 pub const REFUSED: u8 = 1;
@@ -28,6 +28,6 @@ pub fn misuse<T>(what: impl Into<String>) -> Result<T, Stop> {
 }
 
 /// A refusal of what `about` names.
-pub fn refused(about: impl std::fmt::Display) -> impl Fn(Refused) -> Stop {
+pub fn refused<E: Display>(about: impl Display) -> impl Fn(E) -> Stop {
     move |e| Stop { status: REFUSED, message: format!("{about}: {e}") }
 }

@@ -68,6 +68,80 @@ fn held_lines() {
 }
 
 #[test]
+fn columns() {
+    let tree = five("columns.tree");
+    let sheet = |words: &[&str]| out(&[&["sheet", &tree], words].concat());
+    assert_eq!(sheet(&["--column", "1:3"]), STRETCHED);
+    // where it stands already, nothing changes
+    assert_eq!(sheet(&["--column=1:1", "--column=2:1", "--column=4:2"]), FRESH);
+    // in the order that they are given in, whatever their kind
+    assert_eq!(sheet(&["--lengthen=1:1", "--column=1:3"]), STRETCHED);
+    assert_eq!(sheet(&["--lengthen=1:2", "--shorten=1:2", "--column=1:2", "--lengthen=1:1"]), STRETCHED);
+    assert_eq!(sheet(&["--column=1:5", "--shorten=1:2"]), STRETCHED);
+    assert_eq!(sheet(&["--hold=1", "--free=1", "--column=1:3", "--hold=1", "--free=1"]), STRETCHED);
+    assert!(sheet(&["--hold=3", "--column=1:3"]).contains("\n1 3 3 9 0\n2 1 1 4 0\n3 1 4 10 1\n"));
+    assert!(sheet(&["--column=1:2", "--column=3:4"]).contains("\n1 2 2 6 0\n2 1 1 4 0\n3 2 4 8 0\n"));
+    assert!(sheet(&["--column=3:4", "--column=1:2"]).contains("\n1 2 2 6 0\n2 1 1 4 0\n3 3 5 9 0\n"));
+    // at the edge of both cabinets
+    assert!(sheet(&["--column=3:2147483645"]).contains("\n3 2147483644 2147483645 2147483647 0\n"));
+    assert!(sheet(&["--small", "--column=3:1048573"]).contains("\n3 1048572 1048573 1048575 0\n"));
+    assert_eq!(out(&["draw", &tree, "--column=1:3"]), out(&["draw", &tree, "--lengthen=1:2"]));
+    assert_eq!(out(&["check", &tree, "--column=1:3"]), "Monotone\n");
+}
+
+/// Where no count brings a lot to a column, the message says why.
+#[test]
+fn columns_that_a_lot_does_not_come_to() {
+    let tree = five("no-columns.tree");
+    let fails_with = |words: &[&str], said: &str| {
+        let right = (1, format!("lineage: {tree}: --column {said}\n"));
+        assert_eq!(fails(&[&["sheet", &tree], words].concat()), right, "{words:?}");
+    };
+    fails_with(&["--column=0:0"], "0:0: column refused (10): the root has no edge");
+    fails_with(&["--column=5:9"], "5:9: column refused (9): there is no such lot");
+    fails_with(&["--small", "--column=5:9"], "5:9: column refused (9): there is no such lot");
+
+    let held = "the line of lot 1 is held; --free 1 frees it";
+    fails_with(&["--hold=1", "--column=1:3"], &format!("1:3: {held}"));
+    fails_with(&["--hold=1", "--column=1:1"], &format!("1:1: {held}"));
+    fails_with(&["--hold=1", "--column=1:0"], &format!("1:0: {held}"));
+    fails_with(&["--hold=1", "--small", "--column=1:4294967295"], &format!("1:4294967295: {held}"));
+
+    fails_with(&["--column=1:0"], "1:0: lot 1 stands at x 1, right of that column; only --shorten goes left");
+    let again = ["--column=1:4", "--column=1:3", "--column=9:9"];
+    fails_with(&again, "1:3 (2 of 3): lot 1 stands at x 4, right of that column; only --shorten goes left");
+
+    let past = |words: &[&str], said: &str| {
+        fails_with(&[&["--rule=balanced"], words].concat(), &format!("{said}, past that column"))
+    };
+    past(&["--column=1:5"], "1:5: lot 1 stands at x 3 and goes 3 across at a time: from 3 to 6");
+    let longer = ["--lengthen=1:1", "--column=1:010"];
+    past(&longer, "1:010: lot 1 stands at x 6 and goes 3 across at a time: from 9 to 12");
+    let far = "4:4294967295: lot 4 stands at x 8 and goes 2 across at a time: from 4294967294 to 4294967296";
+    past(&["--lengthen=1:1", "--column=4:4294967295"], far);
+
+    // lot 1 goes 1 across and 3 up, and lot 4 is 2 above it
+    fails_with(&["--column=1:715827882"], "1:715827882: the place of a lot below lot 1 would be above 2,147,483,647");
+    fails_with(&["--column=1:715827883"], "1:715827883: the place of lot 1 would be above 2,147,483,647");
+    fails_with(&["--column=1:4294967295"], "1:4294967295: the place of lot 1 would be above 2,147,483,647");
+    let small = |column: &str, whose: &str| {
+        let said = format!("{column}: the place of {whose} would be above 1,048,575");
+        fails_with(&["--small", "--column", column], &said);
+        out(&["sheet", &tree, "--column", column]);
+    };
+    small("1:349525", "a lot below lot 1");
+    small("1:349526", "lot 1");
+    small("3:1048576", "lot 3");
+
+    // a wrong value is told before any call is made
+    let told = |value: &str| fails(&["sheet", &tree, "--column=0:0", "--column", value]);
+    assert_eq!(told("x"), (2, "lineage: --column: 'x' is not two numbers with ':' between\n".to_string()));
+    assert_eq!(told("1:x"), (2, "lineage: --column: 'x' is not a whole number below 4,294,967,296\n".to_string()));
+    let beside = "lineage: --column would mean nothing beside --places\n".to_string();
+    assert_eq!(fails(&["check", &tree, "--places", &tree, "--column=1:3"]), (2, beside));
+}
+
+#[test]
 fn saved_sheets_are_taken_up_again() {
     let (tree, saved) = (five("saved.tree"), place("saved.sheet"));
     out(&["sheet", &tree, "--lengthen", "1:2", "-o", &saved]);
@@ -314,6 +388,7 @@ fn wrong_uses_are_told_in_a_line() {
         &["draw", &tree, "--page", "A9"],
         &["draw", &tree, "--lengthen", "1"],
         &["draw", &tree, "--lengthen", "1:x"],
+        &["draw", &tree, "--column", "1"],
         &["draw", &tree, "--hold", "1:1"],
         &["sheet", &tree, "--free", "x"],
         &["check", &tree, "--places", &tree, "--hold", "1"],
@@ -349,6 +424,7 @@ fn bash_completes() {
     assert_eq!(offered("lineage d"), ["draw", "direction"]);
     assert_eq!(offered("lineage draw x --p"), ["--path", "--page"]);
     assert_eq!(offered("lineage check x --h"), ["--hold", "--help"]);
+    assert_eq!(offered("lineage sheet x --c"), ["--column"]);
     assert_eq!(offered("lineage draw x --rule b"), ["balanced"]);
     assert_eq!(offered("lineage draw x --page ''"), ["A4", "A3"]);
     assert_eq!(offered("lineage completion ''"), ["bash"]);
