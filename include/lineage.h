@@ -141,9 +141,9 @@ bool lineage_hold(bool balanced, const uint32_t *parent, size_t parent_length, c
                   size_t reply_length);
 
 /* The count by which lineage_lengthen brings `lot` to a column: it accepts that count, and x[lot] is `column` then. No
- * other count does it. Reply: {1, count, 0}, or {2, 0, 0} where none does: the column is left of x[lot], the gap between
- * them is no multiple of the slope's across part, some place would be above 2,147,483,647, or the edge is held, also
- * where the lot stands in the column already. Nothing moves. Refusals 1 to 10. */
+ * other count does it. Reply: {1, count, 0}, or {2, 0, 0} where none does: the column is left of x[lot], the gap
+ * between them is no multiple of the slope's across part, some place would be above 2,147,483,647, or the edge is held,
+ * also where the lot stands in the column already. Nothing moves. Refusals 1 to 10. */
 bool lineage_column(bool balanced, const uint32_t *parent, size_t parent_length, const uint32_t *rank,
                     size_t rank_length, const uint32_t *times, size_t times_length, const uint32_t *x,
                     size_t x_length, const uint32_t *y, size_t y_length, const uint32_t *held, size_t held_length,
@@ -153,7 +153,9 @@ bool lineage_column(bool balanced, const uint32_t *parent, size_t parent_length,
 /* The small cabinet: at most 1,024 lots, and no place above 1,048,575. Its layout, lengthen and shorten are calls of
  * their own, which refuse more lots with 20, in the place of 2; a place that would be above with 21, in the place of
  * 11; and a sheet that has such a place with 8. Within these limits they reply what the calls above reply, and leave
- * what those leave, refusals too; so a sheet may go from one cabinet to the other, and the other calls serve both.
+ * what those leave, refusals too; so a sheet may go from one cabinet to the other, and the other calls serve both. The
+ * count that lineage_column replies is the small cabinet's where lineage_small_lengthen accepts it; where it does not,
+ * no count brings the lot there.
  *
  * Refusals 1, 20, 3 to 7. */
 bool lineage_small_layout(bool balanced, const uint32_t *parent, size_t parent_length, const uint32_t *rank,
