@@ -25,6 +25,7 @@ use Rattle.drawing.specs.Drawing.{Drawing, lent, Sheet, sheetOf, frame, OnSheet
 use Rattle.drawing.specs.DrawingLaws.{Coordinate, Drawn, drawn-times, same-drawing}
 use Rattle.drawing.specs.Parts.{FramesFit}
 use Rattle.stretching.specs.CallLaws.{Examined, free, beyond-x, beyond-y, no-beyond, longer-drawn, shorter-drawn}
+use Rattle.stretching.specs.CallLaws.{lengthen-made}
 use Rattle.stretching.specs.Parts.{by, freeFault, Inspecting, Unheld, Passes, Movable, Stretchable, Opened}
 use Rattle.stretching.specs.Parts.{framing}
 use Rattle.stretching.specs.Stretching.{moved, stretched, beyond, lotFault, stretchFault, lengthen, shorten}
@@ -154,11 +155,11 @@ module _ {L : Limits} {P R : List ℕ} (rule : Rule) {s : Sheet} {W : List ℕ} 
 
       module _ (f : q ≡ false) where
         pub lengthened : {t : Drawing} → t ≡ on → Lengthened t Accepted
-        unfolding lengthen framing
+        unfolding framing
         lengthened new =
             ap (λ (u : Drawing). framing Accepted (sheetOf u (s .held))) new
-            ∙ sym (settle-none framed.Refused s (frame on) (sheetOf on (s .held)) _
-            (orElse-second _ _ (unrefused ok) ∙ refuse-no _ (L .far) v (sym far ∙ f)))
+            ∙ sym (lengthen-made L P R rule s (length W) v c (free L P R rule s (length W) v (unrefused ok))
+            (sym far ∙ f))
 
         -- within the limit, the longer drawing has times and places that fit
         pub can-lengthen : FramesFit L → Stretchable P R rule (s .drawing) W v c true
