@@ -1,8 +1,6 @@
 // The C interface. Each call that takes a reply writes its answer into it, three numbers (a list of lengthens: four),
 // and returns true; where the reply is not so long it writes nothing at all and returns false. include/lineage.h says
 // what the numbers mean.
-pub mod replay;
-
 use aligning::Aligned;
 use arranging::Arranged;
 use direction::Heading;

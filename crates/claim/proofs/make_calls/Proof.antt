@@ -6,9 +6,9 @@ use lib.ListN.{length}
 use borrow.Author.Needs.{needs}
 use Rattle.table.specs.Table.{large}
 use Rattle.drawing.specs.Drawing.{lent, sheetOf}
-use Rattle.lineage.proofs.Replaying.{Running, running-start, running-step, running-end}
-use Rattle.lineage.proofs.replay.make_calls.Statement.{statement}
-use Rattle.lineage.proofs.replay.make_calls.Tie as tie
+use Rattle.claim.proofs.Replaying.{Running, running-start, running-step, running-end}
+use Rattle.claim.proofs.make_calls.Statement.{statement}
+use Rattle.claim.proofs.make_calls.Tie as tie
 
 abbrev Inv-loop : tie.InvT-loop
 Inv-loop rule parent rank times₀ x₀ y₀ held₀ work₀ kinds lots counts m i₀ times x y held work i =

@@ -16,8 +16,8 @@ use Rattle.drawing.specs.declared.Framed.the-variants.{Frame, Refused}
 use Rattle.drawing.specs.Drawing.{Sheet, accepted, layout}
 use Rattle.stretching.specs.Stretching.{lengthen, shorten}
 use Rattle.holding.specs.Holding.{hold}
-use Rattle.lineage.specs.Claim.{Lengthen, Shorten, Hold, Call, make, run}
-use Rattle.lineage.specs.Replay.{callOf, callsTo, after, run-last, Replayed}
+use Rattle.claim.specs.Claim.{Lengthen, Shorten, Hold, Call, make, run}
+use Rattle.claim.specs.Replay.{callOf, callsTo, after, run-last, Replayed}
 
 module _ (L : Limits) (P R : List ℕ) (rule : Rule) (s : Sheet) (work v c : ℕ) where
   -- what is left of the call that two tests of the kind choose

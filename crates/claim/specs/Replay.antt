@@ -15,8 +15,8 @@ use Rattle.table.specs.declared.Limits.{Limits}
 use Rattle.slopes.specs.declared.Rule.{Rule}
 use Rattle.drawing.specs.declared.Framed.{Framed}
 use Rattle.drawing.specs.Drawing.{Sheet, accepted, layout}
-use Rattle.lineage.specs.Claim.{Single, Lengthen, Shorten, Hold, Call, One, make, leaves, run}
-use Rattle.lineage.specs.ClaimLaws.{run-append}
+use Rattle.claim.specs.Claim.{Single, Lengthen, Shorten, Hold, Call, One, make, leaves, run}
+use Rattle.claim.specs.ClaimLaws.{run-append}
 
 unfoldable pub callOf : ℕ → ℕ → ℕ → ℕ → Single
 callOf kind v c work =

@@ -1,9 +1,9 @@
 -- A call's outcome is the definition's.
 use mathlib.Core.Path.{refl}
 use borrow.Author.Needs.{needs}
-use Rattle.lineage.proofs.Replaying.{made-longer, made-shorter, made-held}
-use Rattle.lineage.proofs.replay.make_call.Statement.{statement}
-use Rattle.lineage.proofs.replay.make_call.Tie as tie
+use Rattle.claim.proofs.Replaying.{made-longer, made-shorter, made-held}
+use Rattle.claim.proofs.make_call.Statement.{statement}
+use Rattle.claim.proofs.make_call.Tie as tie
 
 returns : tie.Need-returns
 returns c =

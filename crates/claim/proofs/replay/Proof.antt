@@ -1,8 +1,8 @@
 -- Layout's outcome, and the calls made on it.
 use borrow.Author.Needs.{needs}
-use Rattle.lineage.proofs.Replaying.{replayed-refused, replayed-all}
-use Rattle.lineage.proofs.replay.replay.Statement.{statement}
-use Rattle.lineage.proofs.replay.replay.Tie as tie
+use Rattle.claim.proofs.Replaying.{replayed-refused, replayed-all}
+use Rattle.claim.proofs.replay.Statement.{statement}
+use Rattle.claim.proofs.replay.Tie as tie
 
 abbrev laid : tie.After-work → tie.After-layout
 laid c = c .before .before .before .before .before .before .before .before .before

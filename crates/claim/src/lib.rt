@@ -6,8 +6,8 @@ ghost use mathlib.Core.Path.{_≡_};
 ghost use lib.ListN.{length};
 ghost use Rattle.table.specs.Table.{large};
 ghost use Rattle.drawing.specs.Drawing.{sheet};
-ghost use Rattle.lineage.specs.Claim.{make, run};
-ghost use Rattle.lineage.specs.Replay.{callOf, callsTo, Replayed};
+ghost use Rattle.claim.specs.Claim.{make, run};
+ghost use Rattle.claim.specs.Replay.{callOf, callsTo, Replayed};
 
 // Makes one call: kind 0 lengthens, 1 shortens, and any other holds, or frees where the count is 0. A refused one
 // changes nothing.

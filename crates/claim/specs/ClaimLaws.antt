@@ -54,9 +54,9 @@ use Rattle.monotone.specs.declared.Verdict.{Verdict}
 use Rattle.monotone.specs.declared.Verdict.the-variants.{Monotone}
 use Rattle.monotone.specs.Monotone.{HasDirection, placeBeyond, checkFault, Says}
 use Rattle.monotone.specs.MonotoneLaws.{says-one}
-use Rattle.lineage.specs.Claim.{Single, Lengthen, Shorten, Hold, Call, One, LengthenEach, adds, takes, frees}
-use Rattle.lineage.specs.Claim.{make, leaves, untilRefused, tried, run, singles, total, added, taken, freed}
-use Rattle.lineage.specs.Claim.{lengthOf, Assured, Claim}
+use Rattle.claim.specs.Claim.{Single, Lengthen, Shorten, Hold, Call, One, LengthenEach, adds, takes, frees}
+use Rattle.claim.specs.Claim.{make, leaves, untilRefused, tried, run, singles, total, added, taken, freed}
+use Rattle.claim.specs.Claim.{lengthOf, Assured, Claim}
 
 pub record LimitsFit (L : Limits) : Type 0 where
   pub roomy : Roomy L
