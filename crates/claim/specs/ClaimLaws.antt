@@ -19,8 +19,7 @@ use lib.Dec.{eqb}
 use lib.IntN.{ℤ}
 use lib.ListN.{length, getD}
 use borrow.Author.Tests.{eq-eqb, ne-eqb, le-ltb}
-use Rattle.laws.specs.Refusals.{orElse-second, orElse-none, refuseLeast-no}
-use Rattle.laws.specs.SearchLaws.{least-is}
+use Rattle.laws.specs.Refusals.{orElse-second, orElse-none, refuseLeast-all}
 use Rattle.laws.specs.Search.{Refusal, refusedOr, Outcome, settle}
 use Rattle.laws.specs.Tests.{by-eq, differ, neither-is}
 use Rattle.table.specs.Acceptance.{shape-fits, accepting}
@@ -349,10 +348,7 @@ module _ (L : Limits) (fit : LimitsFit L) (P R : List ℕ) (rule : Rule) (long :
   unfolding checkFault placeBeyond allLong t
   unrefused h =
       orElse-second _ _ (accepted-within L checked P R long _ work fine h lists)
-      ∙ refuseLeast-no (checked .far) (length P) (placeBeyond (checked .place) (t .x) (t .y)) (length P)
-      (least-is (placeBeyond (checked .place) (t .x) (t .y)) (length P) (length P) (omega arith) near
-      (λ l. absurd (omega arith)))
-      (omega arith)
+      ∙ refuseLeast-all (checked .far) (length P) (placeBeyond (checked .place) (t .x) (t .y)) near
     where
       lists : allLong (length P) (t .x ∷ t .y ∷ []) ≡ true
       lists = rw (eq-eqb _ _ (r .sound .drawn .x .long), eq-eqb _ _ (r .sound .drawn .y .long)) refl

@@ -1,9 +1,10 @@
 -- What refusals 1 to 8 leave, and what layout does.
 --
---   settled        == a call on a sheet that answers a frame refused nothing
---   Inspected L .. == what refusals 1 to 8 leave
---   fresh-within   == at limits with room, the fresh sheet of an accepted table is a sheet
---   layout-sound   == so layout leaves one
+--   refused-no-frame == a refusal is no frame,
+--   settled             so a call on a sheet that answers a frame refused nothing
+--   Inspected L ..   == what refusals 1 to 8 leave
+--   fresh-within     == at limits with room, the fresh sheet of an accepted table is a sheet
+--   layout-sound     == so layout leaves one
 use mathlib.Core.Bool.{Bool, not}
 use mathlib.Core.List.{List}
 use mathlib.Core.Option.{Option, none}
@@ -12,9 +13,8 @@ use Prim.Native.Nat.{ℕ, _<_}
 use native.Mathlib.Omega.{arith}
 use lib.ListN.{length, getD, replicate, length-replicate, getD-replicate}
 use borrow.Author.Tests.{not-false}
-use Rattle.laws.specs.Refusals.{orElse-second, orElse-none, refuseLeast-no, refuseLeast-none, settle-accepted}
+use Rattle.laws.specs.Refusals.{orElse-second, orElse-none, refuseLeast-all, refuseLeast-none, settle-accepted}
 use Rattle.laws.specs.Search.{Refusal, settle}
-use Rattle.laws.specs.SearchLaws.{least-is}
 use Rattle.table.specs.Acceptance.{Accepting, accepting}
 use Rattle.table.specs.declared.Limits.{Limits}
 use Rattle.table.specs.Table.{tableFault}
@@ -26,12 +26,14 @@ use Rattle.drawing.specs.Drawing.{Sheet, lengthsFit, freshSheet, frame, 
 use Rattle.drawing.specs.FreshLaws.{Roomy, fresh-drawn}
 use Rattle.drawing.specs.SheetLaws.{Sound, long-fits, fits-sound, sound-fits, sound-long}
 
+pub refused-no-frame : {k v w h : ℕ} → Refused k v ≡ Frame w h → ⊥
+refused-no-frame e = let z : _≡_ {A = ℕ} 0 1 = cc in omega arith
+
 -- whatever a call leaves
 pub settled : {S : Type 0} (old new : S) (a : Framed) (f : Option Refusal) {w h : ℕ} {s : S}
     → settle Refused f old a new ≡ record { answer = Frame w h; left = s } → (f ≡ none) × (new ≡ s)
 settled old new a f e =
-    let accepted = settle-accepted Refused old a new f
-    (λ k v q. absurd (let z : _≡_ {A = ℕ} 0 1 = cc in omega arith)) e in
+    let accepted = settle-accepted Refused old a new f (λ k v. refused-no-frame) e in
     (accepted .0, accepted .2)
 
 pub record Inspected (L : Limits) (P R : List ℕ) (rule : Rule) (s : Sheet) (work : ℕ) : Type 0 where
@@ -60,10 +62,7 @@ inspected-again {L} {P} {R} {rule} {s} {work} x {t} a =
     let long : lengthsFit P t ≡ lengthsFit P s =
     long-fits P t (sound-long a) ∙ sym (x .accepting .shape .others) in
     orElse-second _ _ (ap (λ b. tableFault L P R b work) long ∙ x .table)
-    ∙ refuseLeast-no 8 (length P) _ (length P)
-    (least-is _ (length P) (length P) (omega arith) (λ z l. ap not (sound-fits (L .place) P R rule t a z l))
-    (λ l. absurd (omega arith)))
-    (omega arith)
+    ∙ refuseLeast-all 8 (length P) _ (λ z l. ap not (sound-fits (L .place) P R rule t a z l))
 
 pub fresh-within : {L : Limits} {P R : List ℕ} {long : Bool} {work : ℕ} → Roomy L → Accepting L P R long work
     → (rule : Rule) → Sound (L .place) P R rule (freshSheet P R rule)

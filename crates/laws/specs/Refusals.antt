@@ -7,7 +7,7 @@ use native.Mathlib.Omega.{arith}
 use lib.Dec.{ltb}
 use borrow.Author.Tests.{lt-ltb, le-ltb, ltb-false}
 use Rattle.laws.specs.Search.{least, Refusal, refuse, refuseLeast, _orElse_, Outcome, settle}
-use Rattle.laws.specs.SearchLaws.{least-none}
+use Rattle.laws.specs.SearchLaws.{least-none, least-is}
 use Rattle.laws.specs.Tests.{differ}
 
 abbrev pub refusal : ℕ → ℕ → Option Refusal
@@ -83,6 +83,10 @@ refuseLeast-yes k n test v e l =
 
 pub refuseLeast-no : (k n : ℕ) (test : ℕ → Bool) (v : ℕ) → v ≡ least test n → n ≤ v → refuseLeast k n test ≡ none
 refuseLeast-no k n test v e l = refuse-no _ k (least test n) (le-ltb (least test n) n (omega arith))
+
+pub refuseLeast-all : (k n : ℕ) (test : ℕ → Bool) → ((v : ℕ) → v < n → test v ≡ false) → refuseLeast k n test ≡ none
+refuseLeast-all k n test pass =
+    refuseLeast-no k n test n (least-is test n n (omega arith) pass (λ l. absurd (omega arith))) (omega arith)
 
 pub refuseLeast-none : (k n : ℕ) (test : ℕ → Bool) → refuseLeast k n test ≡ none → (v : ℕ) → v < n → test v ≡ false
 refuseLeast-none k n test e = least-none test n (ltb-false (least test n) n (refuse-none _ k (least test n) e))

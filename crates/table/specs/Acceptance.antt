@@ -3,6 +3,8 @@
 --   Shape L ..       == what refusals 1 to 3 leave
 --   Accepting L ..   == what refusals 1 to 7 leave
 --   validity f       == whether a table is one: refusal f, or accepted
+--   tree-of          == a table that passes 4 to 7 is a tree,
+--   tree-fits           and a tree passes them
 --   two-long         == two lists that are lent besides, by their test
 --   not-spared       == an accepted table has none of the refusals that leave the work list alone
 --   table-number     == the number of its refusal is at most 7, or the one for too many nodes
@@ -18,18 +20,20 @@ use lib.Dec.{ltb, eqb}
 use lib.ListN.{length}
 use borrow.Author.Tests.{eqb-true, eqb-false, ltb-false, not-false, le-ltb, eq-eqb, ne-eqb}
 use Rattle.laws.specs.Refusals.{refusal, some-not-none, orElse-second, orElse-none, refuse-no, refuse-none}
-use Rattle.laws.specs.Refusals.{orElse-some, refuse-number, refuse-some, refuseLeast-none, refuseLeast-some}
+use Rattle.laws.specs.Refusals.{orElse-some, refuse-number, refuse-some, refuseLeast-all, refuseLeast-none}
+use Rattle.laws.specs.Refusals.{refuseLeast-some}
 use Rattle.laws.specs.Search.{least, Refusal, refusedOr}
 use Rattle.laws.specs.SearchLaws.{count-two}
 use Rattle.laws.specs.Tests.{by-eq, by-lt, differ, both, both-is, trichotomy}
 use Rattle.table.specs.Ancestry.{climb-root, leads-in-n, leads-steps}
-use Rattle.table.specs.Children.{Nodes, Child, childAt-test, childAt-is}
+use Rattle.table.specs.Children.{Nodes, Child, childAt-test, one-child-a-rank, childAt-is}
 use Rattle.table.specs.declared.Limits.{Limits}
 use Rattle.table.specs.declared.Validity.{Validity}
 use Rattle.table.specs.declared.Validity.the-variants.{Accepted, Refused}
 use Rattle.table.specs.Table.{parent, rank, climb, leads, children, childAt, strayParent, badRank, adrift}
 use Rattle.table.specs.Table.{allLong, shapeFault, treeFault, tableFault}
-use Rattle.table.specs.TableLaws.{Tree, tree-ranked, stray-yes, bad-high, bad-shared, adrift-yes}
+use Rattle.table.specs.TableLaws.{Tree, tree-ranked, stray-yes, stray-no, bad-root, bad-high, bad-shared, bad-no}
+use Rattle.table.specs.TableLaws.{adrift-yes, adrift-no}
 
 unfoldable pub validity : Option Refusal → Validity
 validity f = refusedOr Refused f Accepted
@@ -119,6 +123,20 @@ tree-of P R full long e =
         (λ ne.
         by-lt 0 v (λ u. absurd (differ (adrift-yes P v u ne) (fine v l)))
         (λ u. let z : v ≡ 0 = omega arith in absurd (ne (ap (climb P (length P)) z ∙ climb-root P root (length P)))))
+
+-- and a tree whose root has rank 0 passes
+pub tree-fits : {P R : List ℕ} → Tree P R → rank R 0 ≡ 0 → treeFault P R ≡ none
+unfolding treeFault
+tree-fits {P} {R} t root =
+    orElse-second _ _ (refuse-no _ 4 0 (ap not (both-is (eq-eqb (parent P 0) 0 (t .root)) (eq-eqb (rank R 0) 0 root))))
+    ∙ orElse-second _ _ (refuseLeast-all 5 (length P) (strayParent P) (λ v l. stray-no P v (t .inside v l)))
+    ∙ orElse-second _ _ (refuseLeast-all 6 (length P) (badRank P R) ranked)
+    ∙ refuseLeast-all 7 (length P) (adrift P) (λ v l. adrift-no P v (t .leads-home v l))
+  where
+    ranked : (v : ℕ) → v < length P → badRank P R v ≡ false
+    ranked v l =
+        by-eq v 0 (λ e. ap (badRank P R) e ∙ bad-root P R)
+        (λ ne. bad-no P R v (t .rank-low v (omega arith) l) (one-child-a-rank P R (tree-ranked t) _ _))
 
 -- what an accepted call has
 pub record Accepting (L : Limits) (P R : List ℕ) (long : Bool) (work : ℕ) : Type 0 where

@@ -120,7 +120,7 @@ pub record ChildAt (P R : List ℕ) (p r v : ℕ) : Type 0 where
   pub ranked : rank R v ≡ r
 
 module _ (P R : List ℕ) (g : Ranked P R) where
-  one-child-a-rank : (p r : ℕ) → count (isChildAt P R p r) (length P) ≤ 1
+  pub one-child-a-rank : (p r : ℕ) → count (isChildAt P R p r) (length P) ≤ 1
   one-child-a-rank p r =
       count-few (isChildAt P R p r) (length P)
       (λ j k a b x y.
