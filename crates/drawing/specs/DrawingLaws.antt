@@ -5,6 +5,7 @@
 --   fits-drawn, drawn-fits        == it is one exactly when every node fits
 --   drawn-times                   == times are within the limit too
 --   largest-above, largest-found  == the largest of a list is above all, and one of them or 0
+--   largest-in                    == of a list that is not empty it is one of them
 --   largest-within                == in a coordinate it is within the limit
 use mathlib.Core.Bool.{Bool, true, cond, _&&_}
 use mathlib.Core.List.{List, [], _∷_}
@@ -184,6 +185,11 @@ largest-found (a ∷ l) =
     inr (suc (f .0), omega arith, omega arith))
     (largest-found l))
     (λ h. inr (0, omega arith, omega arith))
+
+pub largest-in : (l : List ℕ) → 0 < length l → (k : ℕ) × (k < length l) × (getD l k 0 ≡ largest l)
+largest-in l some =
+    ⊎-elim (λ e. (0, some, omega (arith, largest-above l 0 some)))
+    (λ (f : (k : ℕ) × (k < length l) × (getD l k 0 ≡ largest l)). f) (largest-found l)
 
 pub largest-within : {limit : ℕ} {P R : List ℕ} {rule : Rule} {times : List ℕ} {part : Slope → ℕ} {X : List ℕ}
     → Coordinate limit P R rule times part X → largest X ≤ limit

@@ -2,10 +2,12 @@
 --
 --   Roomy L           == every fresh drawing that the limits L accept is within them
 --   roomy             == four comparisons of numbers show that
---   fresh-bounds      == document 01's bounds of a fresh sheet
+--   fresh-at          == a fresh place is the sum of the steps on the path, by their numbers,
+--   fresh-sum            so at most that of all slopes,
+--   fresh-bounds         which is within document 01's bounds of a fresh sheet
 --   fresh-drawn       == a fresh drawing is a drawing
 use mathlib.Core.List.{List}
-use mathlib.Core.Path.{_≡_, ap}
+use mathlib.Core.Path.{_≡_, ap, _∙_}
 use Prim.Native.Nat.{ℕ, suc, _+_, _-_, _*_, _/_, _^_, _≤_, _<_}
 use native.Mathlib.Nat.{mul-le-mul, pow-le-pow-right}
 use native.Mathlib.Omega.{arith}
@@ -14,7 +16,7 @@ use Rattle.laws.specs.SearchLaws.{length-tabulate, getD-tabulate}
 use Rattle.laws.specs.Sums.{sum}
 use Rattle.table.specs.declared.Limits.{Limits}
 use Rattle.table.specs.Numbering.{numbering}
-use Rattle.table.specs.Table.{postNumber, large, small}
+use Rattle.table.specs.Table.{large, small}
 use Rattle.table.specs.TableLaws.{Tree}
 use Rattle.slopes.specs.declared.Rule.{Rule}
 use Rattle.slopes.specs.declared.Rule.the-variants.{Steep, Balanced}
@@ -23,20 +25,31 @@ use Rattle.slopes.specs.SlopeLaws.{levelsFor-least, acrossBound, upBound, acros
 use Rattle.slopes.specs.Slopes.{acrossOf, upOf, levelsFor, slopeAt, edge}
 use Rattle.drawing.specs.Drawing.{pathSum, freshPlaces, fresh}
 use Rattle.drawing.specs.DrawingLaws.{Coordinate, Drawn}
-use Rattle.drawing.specs.PathLaws.{adds-cong, path-adds, path-cong, path-bound}
+use Rattle.drawing.specs.PathLaws.{adds-cong, stepBy, path-adds, path-cong, path-bound}
 
 ------------------------------------------------------------------------
 -- Bounds
 
+pub fresh-long : (P R : List ℕ) (rule : Rule) (part : Slope → ℕ) → length (freshPlaces P R rule part) ≡ length P
+unfolding freshPlaces
+fresh-long P R rule part = length-tabulate (length P) _
+
+-- what the part of the slope with number i + 1 adds, of n nodes
+abbrev pub stepAt : Rule → (Slope → ℕ) → ℕ → ℕ → ℕ
+stepAt rule part n i = part (slopeAt rule n (suc i))
+
 module _ {P R : List ℕ} (tree : Tree P R) (rule : Rule) (part : Slope → ℕ) where
-  pub fresh-sum : (v : ℕ) → v < length P
-      → getD (freshPlaces P R rule part) v 0 ≤ sum (λ i. part (slopeAt rule (length P) (suc i))) (length P - 1)
+  pub fresh-at : (v : ℕ) → v < length P
+      → getD (freshPlaces P R rule part) v 0 ≡ pathSum P (stepBy P R (stepAt rule part (length P))) v
   unfolding freshPlaces edge
-  fresh-sum v l =
-      let step : ℕ → ℕ = λ i. part (slopeAt rule (length P) (suc i)) in
-      let same = path-cong tree (λ z. part (edge P R rule z)) (λ z. step (postNumber P R z - 1))
-      (λ z a b. ap (λ j. part (slopeAt rule (length P) j)) (omega (arith, numbering tree .from-1 z b))) v l in
-      omega (arith, getD-tabulate (length P) (pathSum P (λ z. part (edge P R rule z))) v l, path-bound tree step v l)
+  fresh-at v l =
+      getD-tabulate (length P) (pathSum P (λ z. part (edge P R rule z))) v l
+      ∙ path-cong tree (λ z. part (edge P R rule z)) (stepBy P R (stepAt rule part (length P)))
+      (λ z a b. ap (λ j. part (slopeAt rule (length P) j)) (omega (arith, numbering tree .from-1 z b))) v l
+
+  pub fresh-sum : (v : ℕ) → v < length P
+      → getD (freshPlaces P R rule part) v 0 ≤ sum (stepAt rule part (length P)) (length P - 1)
+  fresh-sum v l = omega (arith, fresh-at v l, path-bound tree (stepAt rule part (length P)) v l)
 
 pub fresh-bounds : {P R : List ℕ} → Tree P R → (rule : Rule) (v : ℕ) → v < length P
     → (getD (fresh P R rule .x) v 0 ≤ acrossBound rule (length P))
@@ -88,7 +101,7 @@ module _ {P R : List ℕ} (tree : Tree P R) (rule : Rule) where
       → Coordinate limit P R rule (fresh P R rule .times) part (freshPlaces P R rule part)
   unfolding fresh freshPlaces
   fresh-coordinate part fits = record {
-    long = length-tabulate (length P) _;
+    long = fresh-long P R rule part;
     adds = adds-cong (path-adds tree (λ z. part (edge P R rule z)))
         (λ z a l. omega (arith, ap (λ k. k * part (edge P R rule z)) (getD-replicate {A = ℕ} (length P) z 1 0 l)));
     within = fits;

@@ -4,7 +4,10 @@
 --   path-adds         == the sums along the paths do that,
 --   adds-path            and nothing else does
 --   adds-under        == an entry is at least each step on the path
---   path-bound        == where a node's step goes by its number, no path sums to more than all steps
+--   stepBy P R step v == v's step, where it goes by its number
+--   reach P R step v  == what v's path sums to then, and all steps with smaller numbers: the most of any path through v
+--   reach-all         == it is at most all steps,
+--   path-bound           and so is what a path sums to
 use mathlib.Core.Bool.{true, cond}
 use mathlib.Core.List.{List}
 use mathlib.Core.Path.{_≡_, refl, sym, ap, subst, subst⁻¹, _∙_}
@@ -31,6 +34,12 @@ pub adds-cong : {P : List ℕ} {g h : ℕ → ℕ} {X : List ℕ} → Adds P g X
     → ((z : ℕ) → 0 < z → z < length P → g z ≡ h z) → Adds P h X
 adds-cong {P} {X = X} adds same =
     record { root = adds .root; at = λ v a l. adds .at v a l ∙ ap (λ k. getD X (parent P v) 0 + k) (same v a l) }
+
+abbrev pub stepBy : List ℕ → List ℕ → (ℕ → ℕ) → ℕ → ℕ
+stepBy P R step v = step (postNumber P R v - 1)
+
+abbrev pub reach : List ℕ → List ℕ → (ℕ → ℕ) → ℕ → ℕ
+reach P R step v = pathSum P (stepBy P R step) v + sum step (postNumber P R v - 1)
 
 ------------------------------------------------------------------------
 -- Enough steps
@@ -124,36 +133,40 @@ module _ {P R : List ℕ} (tree : Tree P R) where
       let low : getD X v 0 ≤ getD X z 0 = subst (λ w. getD X w 0 ≤ getD X z 0) (up .2) (adds-climb adds (up .0) z l) in
       omega (arith, adds .at v a (under-inside tree v z l t))
 
-  -- the steps on a path have different numbers, each below that of the parent
-  pub path-bound : (step : ℕ → ℕ) (v : ℕ) → v < length P
-      → pathSum P (λ z. step (postNumber P R z - 1)) v ≤ sum step (length P - 1)
-  unfolding climb
-  path-bound step v l =
-      by-eq v 0 (λ e. subst⁻¹ (λ (z : ℕ). pathSum P g z ≤ sum step (length P - 1)) e (omega (arith, path-root g)))
-      (λ ne. omega (arith, go (length P) v (omega arith) l (tree .leads-home v l)))
-    where
-      g : ℕ → ℕ
-      g z = step (postNumber P R z - 1)
+  ------------------------------------------------------------------------
+  -- Steps that go by a node's number: a path's are different, each below that of the parent
 
-      go : (k z : ℕ) → 0 < z → z < length P → climb P k z ≡ 0
-          → pathSum P g z + sum step (postNumber P R z - 1) ≤ sum step (length P - 1)
-      go zero z a h e = absurd (omega arith)
-      go (suc k) z a h e =
-          let p = parent P z in
-          let later = numbering tree .parent-later z a h in
-          let some = numbering tree .from-1 z h in
-          let here = path-step g z a h in
-          by-eq (parent P z) 0
-          (λ q. omega (
-            arith,
-            ap (pathSum P g) q,
-            path-root g,
-            ap (postNumber P R) q,
-            root-last tree,
-            sum-term step (postNumber P R z - 1) (length P - 1) (omega (arith, ap (postNumber P R) q, root-last tree)),
-          ))
-          (λ ne. omega (
-            arith,
-            sum-term step (postNumber P R z - 1) (postNumber P R (parent P z) - 1) (omega arith),
-            go k (parent P z) (omega arith) (tree .inside z h) (climb-shift P k z ∙ e),
-          ))
+  module _ (step : ℕ → ℕ) where
+    pub reach-root : reach P R step 0 ≡ sum step (length P - 1)
+    reach-root = omega (arith, path-root (stepBy P R step), ap (λ k. sum step (k - 1)) (root-last tree))
+
+    pub reach-up : (v : ℕ) → 0 < v → v < length P → reach P R step v ≤ reach P R step (parent P v)
+    reach-up v a l =
+        let later = numbering tree .parent-later v a l in
+        let some = numbering tree .from-1 v l in
+        omega (
+          arith,
+          path-step (stepBy P R step) v a l,
+          sum-term step (postNumber P R v - 1) (postNumber P R (parent P v) - 1) (omega arith),
+        )
+
+    pub reach-climb : (k v : ℕ) → v < length P → reach P R step v ≤ reach P R step (climb P k v)
+    unfolding climb
+    reach-climb zero v l = omega arith
+    reach-climb (suc k) v l =
+        let below = reach-climb k v l in
+        by-eq (climb P k v) 0
+        (λ e. omega (
+          arith,
+          ap (λ z. reach P R step (parent P z)) e,
+          ap (reach P R step) e,
+          ap (reach P R step) (tree .root),
+        ))
+        (λ ne. omega (arith, reach-up (climb P k v) (omega arith) (climb-inside P (tree .inside) k v l)))
+
+    pub reach-all : (v : ℕ) → v < length P → reach P R step v ≤ sum step (length P - 1)
+    reach-all v l =
+        omega (arith, reach-climb (length P) v l, ap (reach P R step) (tree .leads-home v l), reach-root)
+
+    pub path-bound : (v : ℕ) → v < length P → pathSum P (stepBy P R step) v ≤ sum step (length P - 1)
+    path-bound v l = omega (arith, reach-all v l)
