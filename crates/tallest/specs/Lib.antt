@@ -1,0 +1,3 @@
+pub mod Tallest
+pub mod ChainLaws
+pub mod TallestLaws
