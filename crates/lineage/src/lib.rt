@@ -20,6 +20,7 @@ ghost use Rattle.stretching.specs.Stretching.{lengthen, shorten};
 ghost use Rattle.holding.specs.Holding as holding;
 ghost use Rattle.arranging.specs.Arranging.{Arranges};
 ghost use Rattle.aligning.specs.Aligning.{Aligns};
+ghost use Rattle.tallest.specs.Tallest.{lists, Fills};
 ghost use Rattle.direction.specs.Direction.{Directed};
 ghost use Rattle.monotone.specs.Monotone.{Checked};
 ghost use Rattle.treefile.specs.TreeFile.{statedOrZero, Read, Wrote};
@@ -171,6 +172,28 @@ pub extern "C" fn lineage_post_numbers(
     }
     let answer = numbers::post_numbers(parent, rank, first, last, work);
     put_counted(reply, answer);
+    true
+}
+
+// Fills the lists with the tree of n lots whose fresh steep sheet is the tallest: {1, width, height}, its frame, or
+// {0, number, node} where it is refused.
+#[no_mangle]
+pub extern "C" fn lineage_tallest(
+    n: u32,
+    parent: &mut [u32],
+    rank: &mut [u32],
+    reply: &mut [i64],
+) -> bool
+    ensures { λ b. ⌜ Exported 3
+        (Fills large n (lists parent rank))
+        framedReply (lists parent rank .exit ≡ lists parent rank .entry)
+        (now (reply .entry)) (now (reply .exit)) b ⌝ }
+{
+    if reply.len() != 3 {
+        return false;
+    }
+    let answer = tallest::tallest(n, parent, rank);
+    put_framed(reply, answer);
     true
 }
 
