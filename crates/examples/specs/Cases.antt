@@ -2,7 +2,7 @@
 -- definitions. Frames count grid cells (request 101), the walk to a balanced slope tells its turns (request 104), post
 -- numbers come with the first of each subtree (request 107), a lot has a direction to itself (request 109), lines can
 -- be held (request 108), lengthens are made by lists (request 105), the small cabinet has limits of its own (request
--- 106), and lots are brought to columns (request 110).
+-- 106), lots are brought to columns (request 110), and a number of lots has a tallest sheet (request 113).
 --
 --   Case          == a case, with what document 01 says of it
 --   Holds c       == the definitions say so
@@ -12,7 +12,7 @@
 use mathlib.Core.Bool.{true, false}
 use mathlib.Core.List.{List, [], _∷_, _++_, map}
 use mathlib.Core.Option.{none}
-use mathlib.Core.Path.{_≡_, refl}
+use mathlib.Core.Path.{_≡_, refl, ap}
 use Prim.Native.Nat.{ℕ, suc, _+_, _*_, _≤_}
 use native.Mathlib.Nat.{pow-le-pow-right}
 use native.Mathlib.Omega.{arith}
@@ -45,6 +45,8 @@ use Rattle.aligning.specs.Aligning as aligning
 use Rattle.aligning.specs.AlignLaws.{Obstacle, obstacle-none, beyond-none}
 use Rattle.aligning.specs.declared.Aligned.{Aligned}
 use Rattle.aligning.specs.declared.Aligned.the-variants as aligned
+use Rattle.tallest.specs.Tallest.{Table, tableOf, chainOf, steepFrame, lentFault, tallest}
+use Rattle.tallest.specs.TallestLaws.{tallest-answers}
 use Rattle.direction.specs.declared.Heading.the-variants.{Along}
 use Rattle.direction.specs.Direction.{sideways, heading, pairFault, direction}
 use Rattle.monotone.specs.declared.Verdict.{Verdict}
@@ -82,6 +84,10 @@ pub data Case : Type 0 where
   Arranges : Outcome Arranged Sheet → Arranged → Sheet → Case
   -- what brings a lot of the five-lot table's balanced sheet to a column
   Aligns : Sheet → ℕ → ℕ → Aligned → Case
+  -- an outcome of the call for the tallest sheet: the answer and the lists
+  Fills : Outcome Framed Table → Framed → Table → Case
+  -- the frame of the tallest sheet of n lots, whatever the lists hold
+  Tallest : ℕ → ℕ → ℕ → Case
   -- the steep direction of the five-lot table from u to v
   Goes : ℕ → ℕ → ℤ → ℤ → Case
   -- the fractions of levels 1 to k, and how many turns lead to each: one less than its level
@@ -103,6 +109,9 @@ Holds (Reaches rule across up) =
 Holds (Calls o a s) = o ≡ record { answer = a; left = s }
 Holds (Arranges o a s) = o ≡ record { answer = a; left = s }
 Holds (Aligns s v column r) = aligning.Says large fiveParents fiveRanks Balanced s 20 v column r
+Holds (Fills o a t) = o ≡ record { answer = a; left = t }
+Holds (Tallest n width height) =
+    (t : Table) → allLong n (t .parents ∷ t .ranks ∷ []) ≡ true → tallest large n t .answer ≡ Frame width height
 Holds (Goes u v d e) = direction large fiveParents fiveRanks Steep 20 u v ≡ Along d e
 Holds (Levels k l turns) = (levels k flat upright ≡ l) × (tabulate (length l) (λ i. levelAt k (suc i)) ≡ map suc turns)
 Holds (Checks P R x y r) = Says checked P R x y (4 * length P) r
@@ -272,6 +281,15 @@ cases =
     ∷ Calls (lengthen small two two Steep freshTwo 8 1 1048575) (Refused 21 1) freshTwo
     ∷ Calls (lengthen small two two Steep (farTwo 1048576) 8 1 0) (Refused 8 1) (farTwo 1048576)
     ∷ Calls (lengthen large two two Steep (farTwo 1048576) 8 1 0) (Frame 1048577 1048577) (farTwo 1048576)
+    -- the tallest sheet of one, two and five lots, and of the most; of one more, with empty lists; lists that are too
+    -- short for three
+    ∷ Fills (tallest large 1 (tableOf (7 ∷ []) (7 ∷ []))) (Frame 1 1) (tableOf one one)
+    ∷ Fills (tallest large 2 (tableOf (7 ∷ 7 ∷ []) (7 ∷ 7 ∷ []))) (Frame 2 2) (tableOf two two)
+    ∷ Fills (tallest large 5 (tableOf fiveParents fiveRanks)) (Frame 5 11)
+    (tableOf (0 ∷ 0 ∷ 1 ∷ 2 ∷ 3 ∷ []) (0 ∷ 0 ∷ 0 ∷ 0 ∷ 0 ∷ []))
+    ∷ Tallest 65536 65536 2147450881
+    ∷ Fills (tallest large 65537 (tableOf [] [])) (Refused 2 0) (tableOf [] [])
+    ∷ Fills (tallest large 3 (tableOf (7 ∷ 7 ∷ []) (7 ∷ 7 ∷ []))) (Refused 3 0) (tableOf (7 ∷ 7 ∷ []) (7 ∷ 7 ∷ []))
     -- chains, and two lots at one place
     ∷ Checks (0 ∷ 0 ∷ 1 ∷ 2 ∷ []) (0 ∷ 0 ∷ 0 ∷ 0 ∷ []) (0 ∷ 1 ∷ 1 ∷ 0 ∷ []) (0 ∷ 0 ∷ 1 ∷ 1 ∷ []) (Turns 0 3)
     ∷ Checks (0 ∷ 0 ∷ 1 ∷ []) (0 ∷ 0 ∷ 0 ∷ []) (0 ∷ 1 ∷ 2 ∷ []) (0 ∷ 0 ∷ 0 ∷ []) Monotone
@@ -299,6 +317,13 @@ ten-levels =
     let most : i ≤ 9 = omega arith in
     omega (arith, pow-le-pow-right {n = 2} (omega arith) most))
 
+-- by the formula
+most-lots : Holds (Tallest 65536 65536 2147450881)
+unfolding Holds
+most-lots t long =
+    ap (λ (o : Outcome Framed Table). o .answer)
+    (tallest-answers large 65536 t (omega arith) (omega arith) long)
+
 reaches : Holds (Reaches Balanced 29524 29524)
 unfolding Holds
 reaches = rw ten-levels (refl, refl, omega arith, omega arith)
@@ -313,7 +338,7 @@ unfolding AllHold Holds cases count least tabulate climb leads isChild children 
     shapeFault treeFault tableFault
     levels levelNumbers levelsFor slopeAt edge sumUp pathSum freshPlaces fresh largest frame placed nodeFits moved
     heldFits lotFits stretched beyond sheetFault edgeFault lotFault stretchFault layout lengthen shorten hold accepted
-    listsFault eachFault atPlace inTurn lengthenEach aligning.Says sideways
+    listsFault eachFault atPlace inTurn lengthenEach aligning.Says chainOf steepFrame lentFault tallest sideways
     heading pairFault direction
     wordAt words statedNodes fileParents fileRanks openFault bytesOf allBytes fileOf digits decimal field lotLine
     lotLines sheetOf fileFault placesOfTable textOf sheetText
@@ -333,6 +358,7 @@ cases-hold =
     and refl
     and (refl, refl) and refl and refl and refl
     and (refl, refl, omega arith, omega arith) and reaches and refl and refl and refl and refl
+    and refl and refl and refl and most-lots and refl and refl
     and says (0 ∷ 0 ∷ 1 ∷ 2 ∷ []) (0 ∷ 0 ∷ 0 ∷ 0 ∷ []) (0 ∷ 1 ∷ 1 ∷ 0 ∷ []) (0 ∷ 0 ∷ 1 ∷ 1 ∷ [])
     and says (0 ∷ 0 ∷ 1 ∷ []) (0 ∷ 0 ∷ 0 ∷ []) (0 ∷ 1 ∷ 2 ∷ []) (0 ∷ 0 ∷ 0 ∷ [])
     and says two two two two
