@@ -1,9 +1,10 @@
 #!/usr/bin/env python3
 """Prints what the program `cases` must print: document 01's calls on large trees, in plain Python, and before them the
-slopes of 1 to 16 levels with their levels less 1.
+slopes of 1 to 16 levels with their levels less 1, and the tallest trees of up to 65,536 lots.
 
 Written from document 01 (tree table, traversal, slopes, layout, lengthen, shorten, check, refusals) and document 02
-(frames, levels, held lines, columns, the small cabinet's limits), not from the Rattle code. It takes a minute or two.
+(frames, levels, held lines, columns, the small cabinet's limits, the tallest sheet), not from the Rattle code. It takes
+a minute or two.
     python3 tests/cases.py > crates/cases/stdout
 """
 from typing import NamedTuple
@@ -265,10 +266,21 @@ def case(shape, relabelled, rule, n):
     show(*check(tree, sheet.x, sheet.y), *map(mixed, drawing))
 
 
+def tallest(n):
+    """The tallest tree of n lots: the frame of its steep sheet, or the refusal, and the two lists, which were 0."""
+    if n > LARGE.lots:
+        return (0, LARGE.surplus, 0), [0] * n, [0] * n
+    parents, ranks = grown(0, n, False)
+    return Sheet(Tree(parents, ranks), 0).frame(), parents, ranks
+
+
 def main():
     for k in range(1, 17):
         across, up, level = zip(*fractions(k))
         show(k, mixed(across), mixed(up), mixed(i - 1 for i in level))
+    for n in [2**k for k in range(17)] + [65537]:
+        answer, parents, ranks = tallest(n)
+        show(n, *answer, mixed(parents), mixed(ranks))
     for kind, n in enumerate([4096] * 5 + [65536, 4097, 65536, 65537, 65536]):
         for relabelled in (0, 1):
             for rule in (0, 1):

@@ -1,8 +1,9 @@
-// The walks to all balanced slopes of 1 to 16 levels, a line for each number of levels; then large trees of several
-// shapes under both rules: layout, a list of calls, columns and the check, with a line for each answer.
+// The walks to all balanced slopes of 1 to 16 levels, a line for each number of levels; the tallest trees of 1, 2, 4 and
+// so on up to 65,536 nodes, and of one more; then large trees of several shapes under both rules: layout, a list of
+// calls, columns and the check, with a line for each answer.
 //
-// Each line ends with its lists, each mixed into one number: three, or the four of a sheet. What is printed is compared
-// with the output of tests/cases.py, which makes the same calls in plain Python.
+// Each line ends with its lists, each mixed into one number: the two of a table, three, or the four of a sheet. What is
+// printed is compared with the output of tests/cases.py, which makes the same calls in plain Python.
 use aligning::Aligned;
 use arranging::Arranged;
 use drawing::Framed;
@@ -92,6 +93,14 @@ fn show_mixed(a: u64, b: u64, c: u64) {
     io::print_decimal(1, b);
     io::write_all(1, b" ");
     io::print_decimal(1, c);
+    io::write_all(1, b"\n");
+}
+
+// The lists of a table, and the line's end.
+fn show_table(parent: &[u32], rank: &[u32]) {
+    io::print_decimal(1, mixed(parent));
+    io::write_all(1, b" ");
+    io::print_decimal(1, mixed(rank));
     io::write_all(1, b"\n");
 }
 
@@ -657,6 +666,35 @@ fn sized_case(
     );
 }
 
+// The tallest tree of as many nodes as the lists are long, on lists that are zeroed first.
+fn show_tallest(n: u32, parent: &mut [u32], rank: &mut [u32]) {
+    clear(parent);
+    clear(rank);
+    show(n);
+    let answer = tallest::tallest(n, parent, rank);
+    show_framed(answer);
+    show_table(parent, rank);
+}
+
+// The same on the first n numbers of each list.
+fn sized_tallest(n: u32, parent: &mut [u32], rank: &mut [u32]) {
+    let size = n as usize;
+    if parent.len() < size || rank.len() < size {
+        return;
+    }
+    show_tallest(n, &mut parent[..size], &mut rank[..size]);
+}
+
+// 1, 2, 4 and so on up to 65,536 nodes, and one more.
+fn tallest_trees(parent: &mut [u32], rank: &mut [u32]) {
+    let mut n = 1;
+    while n < 65537 {
+        sized_tallest(n, parent, rank);
+        n *= 2;
+    }
+    sized_tallest(65537, parent, rank);
+}
+
 // How many nodes: at most 4,096 pass the check, and 65,536 the other calls.
 fn size_of(kind: u32) -> usize {
     match kind {
@@ -705,6 +743,7 @@ fn main() {
     let mut y = [0u32; 65537];
     let mut held = [0u32; 65537];
     let mut work = [0u32; 262148];
+    tallest_trees(&mut parent, &mut rank);
     cases(
         &mut parent,
         &mut rank,
