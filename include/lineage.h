@@ -43,10 +43,10 @@ extern "C" {
 /* The version of the library that this header belongs to. From 0.2 frames count grid cells; from 0.3 there is
  * lineage_post_numbers; from 0.4 a lot has a direction to itself; from 0.5 a sheet has a fourth list, held, which its
  * calls take after y, and there is lineage_hold; from 0.6 there is lineage_lengthen_each; from 0.7 the small cabinet
- * has calls of its own; from 0.8 there is lineage_column. */
-#define LINEAGE_VERSION "0.8.0"
+ * has calls of its own; from 0.8 there is lineage_column; from 0.9 there is lineage_tallest. */
+#define LINEAGE_VERSION "0.9.0"
 #define LINEAGE_VERSION_MAJOR 0
-#define LINEAGE_VERSION_MINOR 8
+#define LINEAGE_VERSION_MINOR 9
 #define LINEAGE_VERSION_PATCH 0
 
 /* The most lots of a table, the most that the check takes, and the largest x and y on a sheet; the small cabinet's. */
@@ -195,6 +195,13 @@ bool lineage_post_numbers(const uint32_t *parent, size_t parent_length, const ui
 bool lineage_check(const uint32_t *parent, size_t parent_length, const uint32_t *rank, size_t rank_length,
                    const uint32_t *x, size_t x_length, const uint32_t *y, size_t y_length, uint32_t *work,
                    size_t work_length, int64_t *reply, size_t reply_length);
+
+/* The tree of n lots whose fresh steep sheet is the tallest: fills parent with the chain in which each lot v from 1 up
+ * hangs on v - 1, and rank with 0. Reply: {1, width, height}, the frame of that sheet: n, and n * (n - 1) / 2 + 1. No
+ * accepted table of n lots has a taller or a wider fresh steep frame, and one is as tall exactly when no lot has two
+ * children. Refusals 1 to 3: 1 and 2 are about the n given, however long the lists are. */
+bool lineage_tallest(uint32_t n, uint32_t *parent, size_t parent_length, uint32_t *rank, size_t rank_length,
+                     int64_t *reply, size_t reply_length);
 
 /* The n that a tree file states, or 0 where it has fewer than 4 bytes: how long the lists must be that the reader is
  * lent. It may be above LINEAGE_MAX_LOTS; the reader then refuses, whatever it is lent. */
