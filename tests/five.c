@@ -338,6 +338,58 @@ static void checks(void)
                                      LINEAGE_PASSES_MAX_PLACE, 3));
 }
 
+/* Whether the n lots are the chain, and the fresh steep sheet that layout draws of it has this frame. */
+static bool is_chain(uint32_t n, const uint32_t *above, const uint32_t *rank, int64_t width, int64_t height)
+{
+    static uint32_t lists[4][LINEAGE_MAX_LOTS], room[4 * LINEAGE_MAX_LOTS];
+    for (uint32_t v = 0; v < n; v++)
+        if (above[v] != (v == 0 ? 0 : v - 1) || rank[v] != 0)
+            return false;
+    return replied(lineage_layout(false, above, n, rank, n, lists[0], n, lists[1], n, lists[2], n, lists[3], n, room,
+                                  4 * (size_t)n, REPLY),
+                   1, width, height);
+}
+
+/* Document 02's tallest sheet. */
+static void tallest(void)
+{
+    static uint32_t many[LINEAGE_MAX_LOTS], many_ranks[LINEAGE_MAX_LOTS];
+    const uint32_t most = LINEAGE_MAX_LOTS;
+    uint32_t above[5] = {9, 9, 9, 9, 9}, rank[5] = {8, 8, 8, 8, 8};
+    memset(reply, -1, sizeof reply);
+    memset(each_reply, -1, sizeof each_reply);
+    expect("a reply of two numbers", !lineage_tallest(5, above, 5, rank, 5, reply, 2));
+    expect("it is not set", replied(true, -1, -1, -1));
+    expect("a reply of four numbers", !lineage_tallest(5, above, 5, rank, 5, each_reply, 4));
+    expect("it is not set either", each_replied(true, -1, -1, -1, -1));
+    expect("no lots", refused(lineage_tallest(0, above, 0, rank, 0, REPLY), LINEAGE_NO_LOTS, 0));
+    expect("no lots, in lists of five", refused(lineage_tallest(0, above, 5, rank, 5, REPLY), LINEAGE_NO_LOTS, 0));
+    expect("a lot too many, in empty lists",
+           refused(lineage_tallest(most + 1, above, 0, rank, 0, REPLY), LINEAGE_TOO_MANY_LOTS, 0));
+    expect("the largest n",
+           refused(lineage_tallest(UINT32_MAX, above, 5, rank, 5, REPLY), LINEAGE_TOO_MANY_LOTS, 0));
+    expect("three lots in lists of two",
+           refused(lineage_tallest(3, above, 2, rank, 2, REPLY), LINEAGE_WRONG_LENGTH, 0));
+    expect("parent too short", refused(lineage_tallest(3, above, 2, rank, 3, REPLY), LINEAGE_WRONG_LENGTH, 0));
+    expect("rank too short", refused(lineage_tallest(3, above, 3, rank, 2, REPLY), LINEAGE_WRONG_LENGTH, 0));
+    expect("parent too long", refused(lineage_tallest(3, above, 4, rank, 3, REPLY), LINEAGE_WRONG_LENGTH, 0));
+    expect("rank too long", refused(lineage_tallest(3, above, 3, rank, 4, REPLY), LINEAGE_WRONG_LENGTH, 0));
+    expect("both lists are as they were", are(above, 9, 9, 9, 9, 9) && are(rank, 8, 8, 8, 8, 8));
+
+    expect("one lot", replied(lineage_tallest(1, above, 1, rank, 1, REPLY), 1, 1, 1));
+    expect("its sheet", is_chain(1, above, rank, 1, 1));
+    expect("two lots", replied(lineage_tallest(2, above, 2, rank, 2, REPLY), 1, 2, 2));
+    expect("their sheet", is_chain(2, above, rank, 2, 2));
+    expect("what lies behind them is as it was", above[2] == 9 && rank[2] == 8);
+    expect("five lots", replied(lineage_tallest(5, above, 5, rank, 5, REPLY), 1, 5, 11));
+    expect("each hangs on the one before it", are(above, 0, 0, 1, 2, 3) && are(rank, 0, 0, 0, 0, 0));
+    expect("their sheet", is_chain(5, above, rank, 5, 11));
+    memset(many, -1, sizeof many);
+    memset(many_ranks, -1, sizeof many_ranks);
+    expect("the most lots", replied(lineage_tallest(most, many, most, many_ranks, most, REPLY), 1, most, 2147450881));
+    expect("their sheet", is_chain(most, many, many_ranks, most, 2147450881));
+}
+
 static void files(void)
 {
     uint8_t file[44];
@@ -367,6 +419,7 @@ int main(void)
     directions();
     numbers();
     checks();
+    tallest();
     files();
     printf("%d passed, %d failed\n", passed, failed);
     return failed != 0;
