@@ -481,6 +481,27 @@ bool plain_check(const uint32_t *parent, size_t parents, const uint32_t *rank, s
     return true;
 }
 
+bool plain_tallest(uint32_t n, uint32_t *parent, size_t parents, uint32_t *rank, size_t ranks, int64_t *reply,
+                   size_t replies)
+{
+    if (replies != 3)
+        return false;
+    if (n == 0)
+        return refused(reply, 1, 0);
+    if (n > LOTS)
+        return refused(reply, 2, 0);
+    if (parents != n || ranks != n)
+        return refused(reply, 3, 0);
+    parent[0] = 0;
+    for (uint32_t v = 1; v < n; v++)
+        parent[v] = v - 1;
+    memset(rank, 0, n * sizeof *rank);
+    reply[0] = 1;
+    reply[1] = n;
+    reply[2] = (int64_t)n * (n - 1) / 2 + 1;
+    return true;
+}
+
 static uint32_t word(const uint8_t *b)
 {
     return b[0] | (uint32_t)b[1] << 8 | (uint32_t)b[2] << 16 | (uint32_t)b[3] << 24;

@@ -36,6 +36,7 @@ mod plain_c {
         plain_direction,
         plain_post_numbers,
         plain_check,
+        plain_tallest,
         plain_read_tree,
         plain_write_tree
     );

@@ -66,7 +66,9 @@ macro_rules! calls {
                 $drawing:tt, $held:tt $(, $more:ident: $number:ty)* $(; $($list:ident),*)?
             )
         ),*]
-        $(, $column:ident, $direction:ident, $numbers:ident, $check:ident, $read:ident, $write:ident)?
+        $(
+            , $column:ident, $direction:ident, $numbers:ident, $check:ident, $tallest:ident, $read:ident, $write:ident
+        )?
     ) => {
         extern "C" {
             $(fn $sheet_call(
@@ -94,6 +96,10 @@ macro_rules! calls {
             fn $check(
                 parent: *const u32, parents: usize, rank: *const u32, ranks: usize, x: *const u32, x_length: usize,
                 y: *const u32, y_length: usize, work: *mut u32, work_length: usize, reply: *mut i64,
+                reply_length: usize,
+            ) -> bool;
+            fn $tallest(
+                n: u32, parent: *mut u32, parents: usize, rank: *mut u32, ranks: usize, reply: *mut i64,
                 reply_length: usize,
             ) -> bool;
             fn $read(
@@ -183,6 +189,17 @@ macro_rules! calls {
             }
         }
 
+        /// {1, width, height}.
+        pub fn tallest(n: u32, parent: &mut [u32], rank: &mut [u32], reply: &mut [i64]) -> bool {
+            // SAFETY: as in the calls on a sheet.
+            unsafe {
+                $tallest(
+                    n, parent.as_mut_ptr(), parent.len(), rank.as_mut_ptr(), rank.len(), reply.as_mut_ptr(),
+                    reply.len(),
+                )
+            }
+        }
+
         /// {1, n, 0}.
         pub fn read_tree(
             bytes: &[u8], parent: &mut [u32], rank: &mut [u32], work: &mut [u32], reply: &mut [i64],
@@ -224,6 +241,7 @@ calls!(
     lineage_direction,
     lineage_post_numbers,
     lineage_check,
+    lineage_tallest,
     lineage_read_tree,
     lineage_write_tree
 );
