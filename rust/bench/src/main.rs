@@ -45,7 +45,7 @@ mod plain_c {
 /// A call on lists, under the balanced rule or the steep one.
 type Call = fn(&mut Lists, bool);
 
-/// One library's calls, on the lists of `Lists`. Post numbers and tree files have no rule.
+/// One library's calls, on the lists of `Lists`. Post numbers, the tallest tree and tree files have no rule.
 macro_rules! on_lists {
     ($module:ident, $calls:path) => {
         mod $module {
@@ -115,6 +115,12 @@ macro_rules! on_lists {
             pub fn check(l: &mut Lists, b: bool) {
                 let s = &l.sheets[usize::from(b)];
                 assert!(calls::check(&l.parent, &l.rank, &s.x, &s.y, &mut l.work, &mut l.reply));
+            }
+
+            /// Any two lists of n numbers do for the tree, as for the post numbers.
+            pub fn tallest(l: &mut Lists, b: bool) {
+                let (n, s) = (l.lots() as u32, l.sheets[usize::from(b)].lent());
+                assert!(calls::tallest(n, s.x, s.y, &mut l.reply));
             }
 
             pub fn read_tree(l: &mut Lists, _: bool) {
@@ -415,7 +421,7 @@ fn leaves(summary: &mut Summary, rounds: usize, trees: &mut [Lists], shape: &str
     }
 }
 
-/// The calls that have no rule.
+/// The calls that have no rule. The one for the tallest tree is given none, so it is timed among one shape's alone.
 fn other_calls(summary: &mut Summary, rounds: usize, trees: &mut [Lists], shape: &str) {
     let mut time = |call, calls| {
         summary.line(call, "", shape, trees[0].lots(), &in_turn(rounds, trees, &[false], calls)[0]);
@@ -423,6 +429,9 @@ fn other_calls(summary: &mut Summary, rounds: usize, trees: &mut [Lists], shape:
     time("post_numbers", [proved::post_numbers, plain::post_numbers]);
     time("write_tree", [proved::write_tree, plain::write_tree]);
     time("read_tree", [proved::read_tree, plain::read_tree]);
+    if shape == "chain" {
+        time("tallest", [proved::tallest, plain::tallest]);
+    }
 }
 
 fn checks(summary: &mut Summary, rounds: usize, shape: &str, n: usize) {
