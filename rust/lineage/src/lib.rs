@@ -143,6 +143,12 @@ fn asked(call: Call, make: impl FnOnce(&mut raw::Reply) -> bool) -> Result<(i64,
     }
 }
 
+/// The same for a call whose two numbers are a frame.
+fn framed(call: Call, make: impl FnOnce(&mut raw::Reply) -> bool) -> Result<Frame, Refused> {
+    let (_, width, height) = asked(call, make)?;
+    Ok(Frame { width: width as u32, height: height as u32 })
+}
+
 /// An accepted tree table.
 #[derive(Clone, Debug, PartialEq, Eq)]
 pub struct Tree {
@@ -173,6 +179,33 @@ impl Tree {
         let (mut parent, mut rank, mut work) = (vec![0; n], vec![0; n], vec![0; 4 * n]);
         asked(Call::ReadTree, |reply| raw::read_tree(bytes, &mut parent, &mut rank, &mut work, reply))?;
         Ok(Tree { parent, rank })
+    }
+
+    /// The tree of n lots whose fresh steep sheet is the tallest, with that sheet's frame, for paper that is ordered
+    /// before a tree is known. It is the chain in which each lot v from 1 up has parent v - 1. No tree of n lots has a
+    /// taller or a wider fresh steep sheet, and one is as tall exactly when no lot has two children. That this is so is
+    /// proved. Refused with 1 where n is 0, and with 2 where it is above [`MAX_LOTS`].
+    ///
+    /// ```
+    /// use lineage::{Call, Frame, Refused, Rule, Sheet, Tree};
+    ///
+    /// let (tree, frame) = Tree::tallest(5)?;
+    /// assert_eq!(frame, Frame { width: 5, height: 11 });
+    /// assert_eq!((tree.parents(), tree.ranks()), (&[0, 0, 1, 2, 3][..], &[0; 5][..]));
+    /// assert_eq!(Sheet::new(tree, Rule::Steep)?.frame(), frame);
+    ///
+    /// let other = Tree::new(vec![0, 0, 0, 1, 1], vec![0, 0, 1, 0, 1])?;
+    /// assert_eq!(Sheet::new(other, Rule::Steep)?.frame(), Frame { width: 3, height: 6 });
+    ///
+    /// assert_eq!(Tree::tallest(0), Err(Refused { call: Call::Tallest, number: 1, lot: 0 }));
+    /// # Ok::<(), Refused>(())
+    /// ```
+    pub fn tallest(n: u32) -> Result<(Tree, Frame), Refused> {
+        // where there are more the call refuses, whatever it is lent
+        let lots = if n <= MAX_LOTS { n as usize } else { 0 };
+        let (mut parent, mut rank) = (vec![0; lots], vec![0; lots]);
+        let frame = framed(Call::Tallest, |reply| raw::tallest(n, &mut parent, &mut rank, reply))?;
+        Ok((Tree { parent, rank }, frame))
     }
 
     /// The bytes of its tree file.
@@ -630,8 +663,7 @@ impl Sheet {
     ) -> Result<Frame, Refused> {
         let Tree { parent, rank } = &self.tree;
         let (balanced, lists, work) = (self.rule.balanced(), self.lists.lent(), &mut self.work);
-        let (_, width, height) = asked(call, |reply| make(balanced, parent, rank, lists, work, reply))?;
-        self.frame = Frame { width: width as u32, height: height as u32 };
+        self.frame = framed(call, |reply| make(balanced, parent, rank, lists, work, reply))?;
         Ok(self.frame)
     }
 

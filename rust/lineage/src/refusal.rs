@@ -23,6 +23,8 @@ pub enum Call {
     PostNumbers,
     /// [`check`](crate::check()).
     Check,
+    /// [`Tree::tallest`](crate::Tree::tallest).
+    Tallest,
     /// [`Tree::from_bytes`](crate::Tree::from_bytes).
     ReadTree,
     /// [`Tree::new`](crate::Tree::new), which asks the writer whether the table is accepted.
@@ -41,6 +43,7 @@ impl fmt::Display for Call {
             Call::Direction => "direction",
             Call::PostNumbers => "post numbers",
             Call::Check => "check",
+            Call::Tallest => "tallest",
             Call::ReadTree => "reading the tree file",
             Call::WriteTree => "the table",
         })

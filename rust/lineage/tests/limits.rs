@@ -119,6 +119,24 @@ fn post_numbers() {
     assert!(numbers.last.iter().copied().eq((1..=MAX_LOTS).rev()));
 }
 
+/// The tallest tree of up to the most lots is accepted, and each cabinet that takes it draws the frame that is told. Of
+/// more lots it is refused, and no lists of that length are made.
+#[test]
+fn tallest() {
+    for (n, height) in [(1, 1), (2, 2), (SMALL_LOTS, 523_777), (MAX_LOTS, 2_147_450_881)] {
+        let (tree, frame) = Tree::tallest(n).unwrap();
+        assert_eq!(frame, Frame { width: n, height });
+        assert!(tree.parents().iter().copied().eq((0..n).map(|v| v.saturating_sub(1))));
+        assert_eq!(Tree::new(tree.parents().to_vec(), vec![0; n as usize]), Ok(tree.clone()));
+        for cabinet in Cabinet::ALL.into_iter().filter(|cabinet| n <= cabinet.max_lots()) {
+            assert_eq!(Sheet::new_in(tree.clone(), Rule::Steep, cabinet).unwrap().frame(), frame);
+        }
+    }
+    for (n, number) in [(0, 1), (MAX_LOTS + 1, 2), (u32::MAX, 2)] {
+        assert_eq!(Tree::tallest(n), Err(Refused { call: Call::Tallest, number, lot: 0 }));
+    }
+}
+
 #[test]
 fn lots_to_check() {
     let sheet = |n| Sheet::new(star(n).unwrap(), Rule::Balanced).unwrap();
