@@ -533,6 +533,28 @@ pub fn post_numbers(parent: &[u32], rank: &[u32], first: &mut Vec<u32>, last: &m
     [1, tree.lots() as i64, 0]
 }
 
+/// The tree of n lots whose fresh steep sheet is the tallest: from the root on each new lot is hung on the last one,
+/// and the tree is laid out. Its reply is the frame; the lists are filled where they are n long.
+pub fn tallest(n: u32, parent: &mut Vec<u32>, rank: &mut Vec<u32>) -> Reply {
+    let lots = n as usize;
+    if lots == 0 {
+        return refused((1, 0));
+    }
+    if lots > LARGE.lots {
+        return refused((LARGE.surplus, 0));
+    }
+    if parent.len() != lots || rank.len() != lots {
+        return refused((3, 0));
+    }
+    let mut chain = vec![0];
+    while chain.len() < lots {
+        let last = chain.len() as u32 - 1;
+        chain.push(last);
+    }
+    (*parent, *rank) = (chain, vec![0; lots]);
+    layout(LARGE, false, parent, rank, &mut Sheet::made(|| vec![0; lots]), 4 * lots)
+}
+
 pub fn check(parent: &[u32], rank: &[u32], x: &[u32], y: &[u32], work: usize) -> Reply {
     let tree = match accept(CHECK, parent, rank, &[x.len(), y.len()], work) {
         Ok(tree) => tree,
@@ -697,6 +719,19 @@ mod tests {
         assert_eq!((asked(LARGE, &s, 1, 3), asked(LARGE, &s, 3, 9)), ([2, 0, 0], [1, 1, 0]));
         s.x[4] = 6;
         assert_eq!(asked(LARGE, &s, 5, 3), [0, 8, 4]);
+    }
+
+    #[test]
+    fn tallest_of_five_lots() {
+        let (mut parent, mut rank) = (vec![9; 5], vec![8; 5]);
+        assert_eq!(tallest(0, &mut parent, &mut rank), [0, 1, 0]);
+        assert_eq!(tallest(65_537, &mut parent, &mut rank), [0, 2, 0]);
+        assert_eq!(tallest(65_536, &mut parent, &mut rank), [0, 3, 0]);
+        assert_eq!(tallest(5, &mut parent, &mut vec![8; 4]), [0, 3, 0]);
+        assert_eq!((&parent[..], &rank[..]), (&[9; 5][..], &[8; 5][..]));
+        assert_eq!(tallest(5, &mut parent, &mut rank), [1, 5, 11]);
+        assert_eq!((&parent[..], &rank[..]), (&[0, 0, 1, 2, 3][..], &[0; 5][..]));
+        assert_eq!(tallest(1, &mut vec![9], &mut vec![8]), [1, 1, 1]);
     }
 
     #[test]
