@@ -630,6 +630,29 @@ fn check() {
     tally.has_all(&[1, 3, 4, 5, 6, 7, 15]);
 }
 
+/// Trees of any number of lots, mostly of as many as the lists are long; no work list is lent.
+#[test]
+fn tallest() {
+    let mut random = Random::from_environment("tallest");
+    let mut tally = Tally::default();
+    for i in 0..calls() {
+        let lots = if random.once_in(20) { 0 } else { random.lots(200) };
+        let n = if random.once_in(8) { random.number() } else { lots as u32 };
+        let (mut mine_p, mut mine_r) = (random.list(lots), random.list(lots));
+        lend(&mut random, &mut mine_p);
+        lend(&mut random, &mut mine_r);
+        let said = format!("call {i}: tallest({n}, {mine_p:?}, {mine_r:?})");
+        let (mut p, mut r, mut lent) = (mine_p.clone(), mine_r.clone(), Lent::new(&mut random, 0));
+        let called = raw::tallest(n, &mut p, &mut r, &mut lent.reply);
+        let right = lent.right(|_| reference::tallest(n, &mut mine_p, &mut mine_r));
+        lent.compare(&said, called, right, spares_work);
+        assert_eq!((mine_p, mine_r), (p, r), "{said}");
+        tally.note(right);
+    }
+    tally.print("tallest");
+    tally.has_all(&[1, 2, 3]);
+}
+
 /// The file of a table, with another number of lots, other bytes or another length now and then.
 fn any_file(random: &mut Random, parent: &[u32], rank: &[u32]) -> Vec<u8> {
     let stated = if random.once_in(20) { random.number() } else { parent.len() as u32 };
@@ -766,6 +789,16 @@ fn limits_of_numbers(shape: &str, n: usize) {
     assert_eq!(right[0], (n <= 65_536) as i64);
 }
 
+/// The tallest tree of n lots, in lists of that length.
+fn limits_of_tallest(n: usize) {
+    let (mut mine_p, mut mine_r) = (vec![8; n], vec![9; n]);
+    let (mut p, mut r, mut reply) = (mine_p.clone(), mine_r.clone(), [0; 3]);
+    raw::tallest(n as u32, &mut p, &mut r, &mut reply);
+    let right = reference::tallest(n as u32, &mut mine_p, &mut mine_r);
+    assert_eq!((reply, right[0]), (right, (n <= 65_536) as i64), "{n}");
+    assert!((mine_p, mine_r) == (p, r), "{n}");
+}
+
 /// 65,536 and 65,537 lots, of each shape, and 1,024 and 1,025 on the small cabinet. The plain version walks by
 /// recursion, so it has a stack of its own.
 #[test]
@@ -783,6 +816,8 @@ fn lots_at_the_limits() {
         for (shape, n) in [("star", 65_536), ("binary", 65_536), ("chain", 65_537)] {
             limits_of_numbers(shape, n);
         }
+        limits_of_tallest(65_536);
+        limits_of_tallest(65_537);
     });
     large.unwrap().join().unwrap();
 }
