@@ -128,6 +128,7 @@ _TAKES = {
     "direction": [c_bool, *_lists(3), c_uint32, c_uint32],
     "post_numbers": _lists(5),
     "check": _lists(5),
+    "tallest": [c_uint32, *_lists(2)],
     "read_tree": [*_BYTES, *_lists(3)],
     "write_tree": [*_lists(2), *_BYTES, *_lists(1)],
 }
@@ -283,6 +284,31 @@ class Tree:
     def write(self, path: Union[str, os.PathLike[str]]) -> None:
         """Writes its tree file."""
         Path(path).write_bytes(self.to_bytes())
+
+    @classmethod
+    def tallest(cls, n: int) -> tuple[Tree, Frame]:
+        """The tree of n lots whose fresh steep sheet is the tallest, with that sheet's frame, for paper that is ordered
+        before a tree is known. It is the chain in which each lot v from 1 up has parent v - 1. No tree of n lots has a
+        taller or a wider fresh steep sheet, and one is as tall exactly when no lot has two children. That this is so is
+        proved.
+
+        >>> tree, frame = Tree.tallest(5)
+        >>> frame
+        Frame(width=5, height=11)
+        >>> tree.parents
+        [0, 0, 1, 2, 3]
+        >>> Sheet(tree, "steep").frame == frame
+        True
+        >>> Tree.tallest(65_537)
+        Traceback (most recent call last):
+        lineage.Refused: tallest refused (2): there are more than 65,536 lots
+        """
+        n = _number(n)
+        lots = n if n <= MAX_LOTS else 0  # where there are more the call refuses, whatever it is lent
+        tree = cls.__new__(cls)
+        tree._parents, tree._ranks = _zeros(lots), _zeros(lots)
+        _, width, height = _ask("tallest", n, tree._parents, tree._ranks)
+        return tree, Frame(width, height)
 
     def post_numbers(self) -> PostNumbers:
         """The first and the last post number in each lot's subtree.

@@ -190,6 +190,21 @@ class BesidePython(unittest.TestCase):
                 self.assertEqual(numbers.first[v], min(plain.post[z] for z in below))
                 self.assertEqual({z for z in range(plain.n) if numbers.under(v, z)}, set(below))
 
+    def test_tallest(self):
+        chains = 0
+        for _ in range(300):
+            lists = random_tree(self.draw)
+            n = len(lists[0])
+            tree, frame = Tree.tallest(n)
+            self.assertEqual((tree.parents, tree.ranks), ([0, *range(n - 1)], [0] * n))
+            self.assertEqual((1, *frame), cases.Sheet(cases.Tree(tree.parents, tree.ranks), 0).frame())
+            _, width, height = cases.Sheet(cases.Tree(*lists), 0).frame()
+            self.assertTrue(width <= frame.width and height <= frame.height, (lists, width, height))
+            is_chain = len(set(lists[0][1:])) == n - 1
+            self.assertEqual(height == frame.height, is_chain, lists)
+            chains += is_chain
+        self.assertTrue(0 < chains < 300, chains)
+
     def test_tree_files(self):
         with tempfile.TemporaryDirectory() as folder:
             path = Path(folder) / "a.tree"
@@ -232,6 +247,16 @@ class Refusals(unittest.TestCase):
         self.refused(17, 0, Tree.from_bytes, data[:-1])
         self.refused(17, 0, Tree.from_bytes, data + b"\0")
         self.refused(7, 1, Tree.from_bytes, struct.pack("<7I", 3, 0, 2, 1, 0, 0, 0))
+
+    def test_tallest(self):
+        self.assertEqual(self.refused(1, 0, Tree.tallest, 0).call, "tallest")
+        for n in 65_537, 2**32 - 1:  # no lists of that length are made
+            self.refused(2, 0, Tree.tallest, n)
+        for n, height in (1, 1), (2, 2), (1024, 523_777), (65_536, 2_147_450_881):
+            tree, frame = Tree.tallest(n)
+            self.assertEqual((len(tree), frame), (n, (n, height)))
+            self.assertEqual(tree, Tree([0, *range(n - 1)], [0] * n))
+            self.assertEqual(Sheet(tree, "steep").frame, frame)
 
     def test_sheets(self):
         tree = Tree(*FIVE)
@@ -404,6 +429,7 @@ class WrongValues(unittest.TestCase):
             self.assertRaises(error, sheet.lengthen_each, [(1, 1), (wrong, 1)])
             self.assertRaises(error, sheet.lengthen_each, [(1, 1), (1, wrong)])
             self.assertRaises(error, lineage.check, sheet.tree, [wrong] * 5, sheet.y)
+            self.assertRaises(error, Tree.tallest, wrong)
         self.assertRaises(IndexError, sheet.place, 5)
         for wrong in [1, 1], [(1,)], [(1, 2, 3)], [(1, 1), "ab"], 7, None:
             self.assertRaises(ValueError, sheet.lengthen_each, wrong)
