@@ -71,6 +71,8 @@ static TITLE: Opt = option("--title", "TEXT", "a title above the caption");
 static PAGE: Opt = option("--page", "A4|A3|WxH", "the page, lying, or its size at 96 to the inch (800x600)");
 static TO_SCALE: Opt = option("--to-scale", "", "one scale for x and y, however steep the sheet is");
 static OUT: Opt = option("-o", "FILE", "write to FILE; '-' is standard output (-)");
+static TREE_OUT: Opt =
+    option("-o", "FILE", "write the tree file to FILE; '-' is refused, as standard output has the frame");
 static PLACES: Opt = Opt {
     name: "--places",
     value: "FILE",
@@ -80,7 +82,7 @@ static PLACES: Opt = Opt {
 };
 static BACK: Opt = option("--back", "", "turn a tree file, with the names beside it, into an outline");
 
-pub static COMMANDS: [Command; 9] = [
+pub static COMMANDS: [Command; 10] = [
     Command {
         name: "draw",
         words: &["TREE"],
@@ -125,6 +127,17 @@ pub static COMMANDS: [Command; 9] = [
                 LAST belong to LOT, and LAST is its own. A lot is in another's subtree exactly when its LAST is one of \
                 the other's numbers.",
         options: &[&OUT],
+    },
+    Command {
+        name: "tallest",
+        words: &["N"],
+        summary: "the frame of the tallest steep sheet of N lots, and its tree",
+        about: "Prints 'WIDTH HEIGHT', in grid cells, for paper that is ordered before a tree is known: no tree of N \
+                lots has a taller or a wider sheet under the steep rule, before any line is made longer. It is the \
+                frame of the chain, in which each lot hangs on the one before it; only chains are as tall. With -o the \
+                chain's tree file is written first; FILE.names, if there is one, is removed, as these lots have no \
+                names.",
+        options: &[&TREE_OUT],
     },
     Command {
         name: "outline",

@@ -9,7 +9,7 @@ use crate::plan::Ask;
 use crate::sheetfile::{self, Saved, Words};
 use crate::stop::{misuse, refused, Stop, REFUSED};
 use crate::{completion, help, manual, outline};
-use lineage::{check, Cabinet, Frame, PostNumbers, Rule, Sheet, Verdict};
+use lineage::{check, Cabinet, Frame, PostNumbers, Rule, Sheet, Tree, Verdict};
 use std::ffi::OsStr;
 use std::io::Write;
 
@@ -20,6 +20,7 @@ pub fn run(given: &Given) -> Result<(), Stop> {
         "check" => check_command(given),
         "direction" => direction_command(given),
         "numbers" => numbers_command(given),
+        "tallest" => tallest_command(given),
         "outline" => outline_command(given),
         "completion" => completion_command(given),
         "man" => files::write(None, manual::page().as_bytes()),
@@ -210,6 +211,20 @@ fn numbers_command(given: &Given) -> Result<(), Stop> {
     let both = first.iter().zip(&last).enumerate();
     let text: String = both.map(|(lot, (first, last))| format!("{lot} {first} {last}\n")).collect();
     files::write(given.one("-o"), text.as_bytes())
+}
+
+fn tallest_command(given: &Given) -> Result<(), Stop> {
+    let (n, out) = (number("N", &given.words[0])?, given.one("-o"));
+    if out.is_some_and(|path| path == "-") {
+        return misuse("-o: standard output has the frame, so the tree file needs a name");
+    }
+    let (tree, Frame { width, height }) = Tree::tallest(n).map_err(refused(format!("{n} lots")))?;
+    if let Some(path) = out {
+        // before the frame, so that a frame which is printed says that the file is there
+        files::write(out, &tree.to_bytes())?;
+        files::remove_names(path)?;
+    }
+    files::write(None, format!("{width} {height}\n").as_bytes())
 }
 
 fn outline_command(given: &Given) -> Result<(), Stop> {

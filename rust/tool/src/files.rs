@@ -145,6 +145,15 @@ pub fn write_names(path: Option<&OsStr>, names: &[String]) -> Result<bool, Stop>
     Ok(true)
 }
 
+/// Removes the names beside a tree file that was written to `path` and has none: they are those of another tree.
+pub fn remove_names(path: &OsStr) -> Result<(), Stop> {
+    let beside = names_path(path);
+    match std::fs::remove_file(&beside) {
+        Err(e) if e.kind() != ErrorKind::NotFound => Err(lost(&shown(&beside), &e)),
+        _ => Ok(()),
+    }
+}
+
 #[cfg(test)]
 mod tests {
     use super::*;

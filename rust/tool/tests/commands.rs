@@ -241,6 +241,66 @@ fn post_numbers() {
 }
 
 #[test]
+fn the_tallest_sheet() {
+    let tree = place("tallest.tree");
+    for (n, height) in [(1, 1), (2, 2), (5, 11), (65_536, 2_147_450_881u32)] {
+        let (frame, word) = (format!("{n} {height}\n"), n.to_string());
+        assert_eq!(out(&["tallest", &word]), frame);
+        assert_eq!(out(&["tallest", &word, "-o", &tree]), frame);
+        assert_eq!(std::fs::read(&tree).unwrap(), lineage::Tree::tallest(n).unwrap().0.to_bytes());
+        let first = format!("lineage sheet: rule steep, lots {n}, frame {frame}");
+        assert!(out(&["sheet", &tree]).starts_with(&first));
+    }
+    assert_eq!(out(&["tallest", "-o", &tree, "--", "3"]), "3 4\n");
+    assert_eq!(out(&["outline", "--back", &tree]), "[0]\n  [1]\n    [2]\n");
+}
+
+#[test]
+fn the_tallest_sheet_is_refused() {
+    let tree = file("tallest-refused.tree", b"as it was");
+    let refused = |n: &str, said: &str| {
+        let right = (1, format!("lineage: {n} lots: tallest refused {said}\n"));
+        assert_eq!(fails(&["tallest", n]), right);
+        assert_eq!(fails(&["tallest", n, "-o", &tree]), right);
+    };
+    refused("0", "(1): there are no lots");
+    refused("65537", "(2): there are more than 65,536 lots");
+    refused("4294967295", "(2): there are more than 65,536 lots");
+    assert_eq!(std::fs::read(&tree).unwrap(), b"as it was");
+
+    let misused = |words: &[&str], said: &str| {
+        assert_eq!(fails(&[&["tallest"], words].concat()), (2, format!("lineage: {said}\n")));
+    };
+    misused(&["4294967296"], "N: '4294967296' is not a whole number below 4,294,967,296");
+    misused(&["five"], "N: 'five' is not a whole number below 4,294,967,296");
+    // the frame is printed there, and a tree file is no text; told before any call is made
+    let to_the_output = "-o: standard output has the frame, so the tree file needs a name";
+    misused(&["5", "-o", "-"], to_the_output);
+    misused(&["0", "-o-"], to_the_output);
+}
+
+/// The names of a tree that stood in the file before are not read as those of the tallest one.
+#[test]
+fn the_tallest_sheet_has_no_names() {
+    let (outline, tree) = (file("named.txt", b"a\n  b\n    c\n"), place("named.tree"));
+    out(&["outline", &outline, "-o", &tree]);
+    assert!(out(&["sheet", &tree]).contains("\n0 1 0 0 0 a\n"));
+    // where it is refused they stay
+    fails(&["tallest", "0", "-o", &tree]);
+    assert!(out(&["sheet", &tree]).contains("\n0 1 0 0 0 a\n"));
+    assert_eq!(out(&["tallest", "3", "-o", &tree]), "3 4\n");
+    let unnamed =
+        "lineage sheet: rule steep, lots 3, frame 3 4\nlot times x y held\n0 1 0 0 0\n1 1 1 2 0\n2 1 2 3 0\n";
+    assert_eq!(out(&["sheet", &tree]), unnamed);
+
+    // names that cannot be removed are told, and no frame is printed
+    let kept = place("names-kept.tree");
+    std::fs::create_dir_all(format!("{kept}.names")).unwrap();
+    let (status, message) = fails(&["tallest", "3", "-o", &kept]);
+    assert!(status == 2 && message.starts_with(&format!("lineage: {kept}.names: ")), "{message}");
+}
+
+#[test]
 fn outlines_keep_names_and_numbers() {
     let outline = file("outline.txt", b"a\n  b\n    c\n    d\n  e\n");
     let tree = place("outline.tree");
@@ -327,8 +387,13 @@ fn names_of_files_may_be_any_bytes() {
 fn nothing_is_lost_silently() {
     let (tree, outline) = (five("lost.tree"), file("lost.txt", b"a\n"));
     let large = common::tree("lost-large.tree", &[0; 5000]);
-    for line in [format!("sheet {tree}"), format!("draw {tree}"), format!("outline {outline}"), "--help".to_string()]
-    {
+    for line in [
+        format!("sheet {tree}"),
+        format!("draw {tree}"),
+        format!("outline {outline}"),
+        "tallest 5".to_string(),
+        "--help".to_string(),
+    ] {
         let (status, _, said) = bash(&format!("$lineage {line} >/dev/full"));
         assert!(status == 2 && said.contains("standard output: No space left on device"), "{line}: {said}");
         let (status, _, said) = bash(&format!("$lineage {line} >&-"));
@@ -341,6 +406,9 @@ fn nothing_is_lost_silently() {
     let (status, _, said) = bash("$lineage draw - < .");
     assert!(status == 2 && said.contains("standard input: Is a directory"), "{said}");
     assert_eq!(bash(&format!("$lineage draw {tree} -o /no/such/folder/x.svg")).0, 2);
+    // a frame is printed only where the tree file is there
+    let (status, told, said) = bash("$lineage tallest 5 -o /dev/full");
+    assert!(status == 2 && told.is_empty() && said.contains("/dev/full: No space left"), "{told}{said}");
     // nobody reads on: quiet, and one status, whether the signal is taken or not
     for first in ["", "trap '' PIPE; "] {
         let (status, _, said) = bash(&format!("set -o pipefail; {first}$lineage draw {large} | head -c 10"));
@@ -362,7 +430,9 @@ fn conventions() {
     assert_eq!(out(&["--version"]), format!("lineage {}\n", env!("CARGO_PKG_VERSION")));
     assert_eq!(out(&["-h"]), out(&["--help"]));
     assert_eq!(out(&["help"]), out(&["--help"]));
-    for command in ["draw", "sheet", "check", "direction", "numbers", "outline", "completion", "man", "help"] {
+    for command in
+        ["draw", "sheet", "check", "direction", "numbers", "tallest", "outline", "completion", "man", "help"]
+    {
         let help = out(&[command, "--help"]);
         assert!(help.starts_with(&format!("lineage {command}")) && help.contains("Exit status:"));
         assert_eq!(out(&[command, "-h"]), help);
@@ -396,6 +466,11 @@ fn wrong_uses_are_told_in_a_line() {
         &["check", &tree, "--places", &tree, "--small"],
         &["numbers", &tree, "--small"],
         &["sheet", &tree, "--small=yes"],
+        &["tallest"],
+        &["tallest", "-1"],
+        &["tallest", "5", "6"],
+        &["tallest", "5", "--rule", "steep"],
+        &["tallest", "5", "-o"],
         &["outline", &tree, "--rule", "steep"],
         &["completion", "zsh"],
         &["man", "draw"],
@@ -422,6 +497,8 @@ fn offered(words: &str) -> Vec<String> {
 #[test]
 fn bash_completes() {
     assert_eq!(offered("lineage d"), ["draw", "direction"]);
+    assert_eq!(offered("lineage t"), ["tallest"]);
+    assert_eq!(offered("lineage tallest 5 -"), ["-o", "--help"]);
     assert_eq!(offered("lineage draw x --p"), ["--path", "--page"]);
     assert_eq!(offered("lineage check x --h"), ["--hold", "--help"]);
     assert_eq!(offered("lineage sheet x --c"), ["--column"]);
@@ -438,7 +515,7 @@ fn bash_completes() {
 #[test]
 fn the_manual_page_tells_what_the_help_tells() {
     let page = out(&["man"]).replace("\\-", "-");
-    for command in ["draw", "sheet", "check", "direction", "numbers", "outline"] {
+    for command in ["draw", "sheet", "check", "direction", "numbers", "tallest", "outline"] {
         let help = out(&[command, "--help"]);
         for option in help.lines().filter_map(|line| line.strip_prefix("    -")) {
             let name = format!(".B -{}", option.split_whitespace().next().unwrap());
