@@ -9,7 +9,8 @@
 --   chain-frame       == the frame of a chain's fresh steep sheet
 --   frame-within      == no tree with as many nodes has a wider or a taller one,
 --   tall-chain           and one that is as tall is a chain's
---   chain-tree        == chainOf n is a tree, and a chain
+--   chain-tree        == chainOf n is a tree,
+--   chain-chain          and a chain
 use mathlib.Core.List.{List}
 use mathlib.Core.Path.{_≡_, refl, sym, ap, ap₂, _∙_}
 use Prim.Native.Nat.{ℕ, zero, suc, _+_, _-_, _*_, _/_, _≤_, _<_}
@@ -46,7 +47,6 @@ module _ {P R : List ℕ} (tree : Tree P R) where
 
   pub chain-next : Chain P → (v : ℕ) → 0 < v → v < length P → number v + 1 ≡ number (parent P v)
   chain-next chain v a l =
-      let p = parent P v in
       let low = tree .rank-low v a l in
       let one = chain (parent P v) (tree .inside v l) in
       let first : rank R v ≡ 0 = omega arith in
@@ -74,6 +74,12 @@ module _ {P R : List ℕ} (tree : Tree P R) where
 
   ------------------------------------------------------------------------
   -- What paths add up to, where a node's step goes by its number
+
+  abbrev firstNode : ℕ
+  firstNode = getD (order P R) 0 0
+
+  first : (firstNode < length P) × (number firstNode ≡ 0 + 1)
+  first = number-at tree 0 (tree .some)
 
   module _ (step : ℕ → ℕ) where
     abbrev all : ℕ
@@ -123,11 +129,10 @@ module _ {P R : List ℕ} (tree : Tree P R) where
             ∙ go k (parent P z) (tree .inside z h) (climb-shift P k z ∙ e))
 
     -- the path of the node with number 1 has them all
-    pub chain-first : Chain P → pathSum P (stepBy P R step) (getD (order P R) 0 0) ≡ all
+    chain-first : Chain P → pathSum P (stepBy P R step) firstNode ≡ all
     chain-first chain =
-        let first = number-at tree 0 (tree .some) in
-        let none : number (getD (order P R) 0 0) - 1 ≡ 0 = omega (arith, first .1) in
-        omega (arith, chain-reach chain (getD (order P R) 0 0) (first .0), ap (sum step) none, sum-zero step)
+        let none : number firstNode - 1 ≡ 0 = omega (arith, first .1) in
+        omega (arith, chain-reach chain firstNode (first .0), ap (sum step) none, sum-zero step)
 
     ----------------------------------------------------------------------
     -- A path that has them all
@@ -158,7 +163,6 @@ module _ {P R : List ℕ} (tree : Tree P R) where
       unfolding climb
       climb-number zero l = full-number
       climb-number (suc k) l =
-          let z = climb P k v in
           let here = climb-number k (omega arith) in
           let not-root : climb P k v ≡ 0 → ⊥ = λ e. omega (arith, ap number e, root-last tree) in
           let next = next-reach positive (climb P k v) (omega arith) (climb-inside P (tree .inside) k v inside)
@@ -170,34 +174,38 @@ module _ {P R : List ℕ} (tree : Tree P R) where
       reach-full z l =
           let some = numbering tree .from-1 z l in
           let high = numbering tree .to-n z l in
-          let k : ℕ = number z - 1 in
           let on : climb P (number z - 1) v ≡ z =
           numbering tree .once _ z (climb-inside P (tree .inside) (number z - 1) v inside) l
           (climb-number (number z - 1) (omega arith) ∙ omega arith) in
           ap (reach P R step) (sym on) ∙ full-climb (number z - 1)
 
-      pub full-chain : Chain P
+      full-chain : Chain P
       full-chain = next-chain (λ z a l.
           next-reach positive z a l (reach-full z l ∙ sym (reach-full (parent P z) (tree .inside z l))))
 
   ------------------------------------------------------------------------
   -- Frames
 
+  -- where the largest stands
+  top : (part : Slope → ℕ) → (v : ℕ) × (v < length P)
+      × (getD (freshPlaces P R Steep part) v 0 ≡ largest (freshPlaces P R Steep part))
+  top part =
+      let long = fresh-long P R Steep part in
+      let found = largest-in (freshPlaces P R Steep part) (omega (arith, long, tree .some)) in
+      (found .0, omega (arith, long, found .1), found .2)
+
   largest-fresh : (part : Slope → ℕ)
       → largest (freshPlaces P R Steep part) ≤ sum (stepAt Steep part (length P)) (length P - 1)
-  largest-fresh part =
-      let top = largest-in (freshPlaces P R Steep part) (omega (arith, fresh-long P R Steep part, tree .some)) in
-      omega (arith, fresh-sum tree Steep part (top .0) (omega (arith, top .1, fresh-long P R Steep part)), top .2)
+  largest-fresh part = omega (arith, fresh-sum tree Steep part (top part .0) (top part .1), top part .2)
 
   chain-largest : Chain P → (part : Slope → ℕ)
       → largest (freshPlaces P R Steep part) ≡ sum (stepAt Steep part (length P)) (length P - 1)
   chain-largest chain part =
-      let first = number-at tree 0 (tree .some) .0 in
       omega (
         arith,
         largest-fresh part,
-        largest-above (freshPlaces P R Steep part) (getD (order P R) 0 0) (omega (arith, fresh-long P R Steep part)),
-        fresh-at tree Steep part (getD (order P R) 0 0) first,
+        largest-above (freshPlaces P R Steep part) firstNode (omega (arith, fresh-long P R Steep part, first .0)),
+        fresh-at tree Steep part firstNode (first .0),
         chain-first (stepAt Steep part (length P)) chain,
       )
 
@@ -225,11 +233,10 @@ module _ {P R : List ℕ} (tree : Tree P R) where
     pub tall-chain : h ≡ tallestHeight (length P) → Chain P
     unfolding slopeAt
     tall-chain tall =
-        let top = largest-in (freshPlaces P R Steep upOf) (omega (arith, fresh-long P R Steep upOf, tree .some)) in
-        let inside : top .0 < length P = omega (arith, top .1, fresh-long P R Steep upOf) in
-        full-chain (stepAt Steep upOf (length P)) (λ i. omega arith) (top .0) inside
-        (sym (fresh-at tree Steep upOf (top .0) inside)
-        ∙ omega (arith, top .2, height-is, steep-up-sum (length P) (tree .some)))
+        let highest = top upOf in
+        full-chain (stepAt Steep upOf (length P)) (λ i. omega arith) (highest .0) (highest .1)
+        (sym (fresh-at tree Steep upOf (highest .0) (highest .1))
+        ∙ omega (arith, highest .2, height-is, steep-up-sum (length P) (tree .some)))
 
 ------------------------------------------------------------------------
 -- The chain that the call fills in
