@@ -1,9 +1,8 @@
--- What each test of the call says of its outcome, and that the height of up to 65,536 nodes is a number of 32 bits.
+-- What each test of the call says of its outcome, and that the height is a number of 32 bits.
 use mathlib.Core.Bool.{Bool, true, false, not}
 use mathlib.Core.List.{List, [], _∷_}
 use mathlib.Core.Path.{_≡_, sym, ap, ap₂, _∙_}
 use Prim.Native.Nat.{ℕ, _-_, _*_, _^_, _≤_, _<_}
-use native.Mathlib.Nat.{mul-le-mul}
 use native.Mathlib.Omega.{arith}
 use lib.ListN.{length}
 use borrow.Author.Tests.{not-false, eq-eqb, ne-eqb, lt-ltb, le-ltb}
@@ -12,8 +11,10 @@ use Rattle.laws.specs.Search.{Outcome}
 use Rattle.table.specs.Acceptance.{two-long}
 use Rattle.table.specs.declared.Limits.{Limits}
 use Rattle.table.specs.Table.{allLong, large}
+use Rattle.slopes.specs.declared.Rule.the-variants.{Steep}
 use Rattle.drawing.specs.declared.Framed.{Framed}
 use Rattle.drawing.specs.declared.Framed.the-variants.{Frame, Refused}
+use Rattle.drawing.specs.FreshLaws.{large-roomy}
 use Rattle.tallest.specs.ChainLaws.{tallestHeight}
 use Rattle.tallest.specs.Tallest.{Table, tableOf, chainOf, steepFrame, lentFault, tallest}
 use Rattle.tallest.specs.TallestLaws.{tallest-answers}
@@ -38,13 +39,13 @@ module _ (n : ℕ) (s : Table) {L : Limits} (is : L ≡ large) where
       ∙ orElse-first _ _ (refuse-yes _ (L .many) 0 (lt-ltb (L .nodes) n h)))
 
 -- n is within the limits, and `long` tells whether the lists are n long
-pub record Counted (L : Limits) (n : ℕ) (s : Table) (long : Bool) : Type 0 where
+pub record Within (L : Limits) (n : ℕ) (s : Table) (long : Bool) : Type 0 where
   pub is-large : L ≡ large
   pub some : n ≡ 0 → ⊥
   pub few : n ≤ L .nodes
   pub told : long ≡ allLong n (s .parents ∷ s .ranks ∷ [])
 
-module _ {L : Limits} {n : ℕ} {s : Table} {long : Bool} (c : Counted L n s long) where
+module _ {L : Limits} {n : ℕ} {s : Table} {long : Bool} (c : Within L n s long) where
   pub not-long : not long ≡ true → record { answer = Refused 3 0; left = s } ≡ tallest large n s
   unfolding lentFault
   not-long e =
@@ -55,14 +56,11 @@ module _ {L : Limits} {n : ℕ} {s : Table} {long : Bool} (c : Counted L n s lon
   above : 0 < n
   above = let some = c .some in omega arith
 
-  most : n ≤ 65536
+  most : n ≤ large .nodes
   most = omega (arith, c .few, ap (λ (l : Limits). l .nodes) (c .is-large))
 
   pub height-fits : (n * (n - 1) < 2 ^ 32) × (tallestHeight n < 2 ^ 32)
-  height-fits =
-      let less : n - 1 ≤ 65535 = omega (arith, most) in
-      let product = mul-le-mul most less in
-      (omega arith, omega arith)
+  height-fits = let bound = large-roomy .up Steep n most in (omega arith, omega arith)
 
   module _ (e : not long ≡ false) where
     both : allLong n (s .parents ∷ s .ranks ∷ []) ≡ true

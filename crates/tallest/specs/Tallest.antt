@@ -1,7 +1,7 @@
 -- The tallest sheet (document 02, request 113; refusals 1 and 2 on the n given, then 3).
 --
---   Table              == a parent list and a rank list
---   lists parent rank  == the two lists that are lent, at entry and at exit
+--   tableOf P R        == the table of a parent list and a rank list
+--   lists parent rank  == the table in the two lists that are lent, at entry and at exit
 --   chainOf n          == the table of n nodes in which each node v from 1 up has parent v - 1
 --   steepFrame t       == the frame of its fresh steep sheet
 --   lentFault L n t    == refusals 1 to 3 at the limits L

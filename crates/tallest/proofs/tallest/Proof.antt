@@ -2,7 +2,7 @@
 use native.Mathlib.Omega.{arith}
 use borrow.Author.Needs.{needs}
 use Rattle.tallest.specs.Tallest.{Table, tableOf}
-use Rattle.tallest.proofs.Answers.{no-nodes, too-many, Counted, not-long, height-fits, parents-fit, filled}
+use Rattle.tallest.proofs.Answers.{no-nodes, too-many, Within, not-long, height-fits, parents-fit, filled}
 use Rattle.tallest.proofs.tallest.Statement.{statement}
 use Rattle.tallest.proofs.tallest.Tie as tie
 
@@ -23,8 +23,8 @@ module _ (c : tie.Else2) where
   abbrev lent : Table
   lent = tableOf (start .args .parent .now) (start .args .rank .now)
 
-  counted : Counted (limited compared .large-limits .result) (start .args .n) lent (compared .both-long .result)
-  counted = record {
+  within : Within (limited compared .large-limits .result) (start .args .n) lent (compared .both-long .result)
+  within = record {
     is-large = limited compared .large-limits .ensures;
     some = some .if1 .left;
     few = c .if2 .left;
@@ -51,22 +51,22 @@ returns-2 c =
     too-many _ _ (limited (some .before) .large-limits .ensures) (some .if1 .left) (c .if2 .taken)
 
 returns-3 : tie.Need-returns-3
-returns-3 c = not-long (counted (c .before)) (c .if3 .taken)
+returns-3 c = not-long (within (c .before)) (c .if3 .taken)
 
 hang-each-requires : tie.Need-hang-each-requires
 hang-each-requires c κs =
     let long = c .before in
-    parents-fit (counted (long .before)) (long .if3 .left)
+    parents-fit (within (long .before)) (long .if3 .left)
 
 mul-t19 : tie.Need-mul-t19
-mul-t19 c = omega (arith, height-fits (counted (long c .before)) .0)
+mul-t19 c = omega (arith, height-fits (within (long c .before)) .0)
 
 add-t21 : tie.Need-add-t21
-add-t21 c = omega (arith, height-fits (counted (long c .before)) .1)
+add-t21 c = omega (arith, height-fits (within (long c .before)) .1)
 
 returns-4 : tie.Need-returns-4
 returns-4 c =
-    filled (counted (long c .before)) (long c .if3 .left) (hung c .hang-each .ensures) (ranked c .rank-each .ensures)
+    filled (within (long c .before)) (long c .if3 .left) (hung c .hang-each .ensures) (ranked c .rank-each .ensures)
 
 pub tallest-spec : {M : Type 1} → statement M
 tallest-spec = tie.close (tie.spec (λ c κs. search needs) (λ c κs. search needs) (λ c. search needs)
