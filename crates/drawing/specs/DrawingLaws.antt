@@ -4,6 +4,7 @@
 --   Drawn limit P R rule s        == s is a drawing of the table under the rule
 --   fits-drawn, drawn-fits        == it is one exactly when every node fits
 --   drawn-times                   == times are within the limit too
+--   drawn-one                     == times determine a drawing
 --   largest-above, largest-found  == the largest of a list is above all, and one of them or 0
 --   largest-in                    == of a list that is not empty it is one of them
 --   largest-within                == in a coordinate it is within the limit
@@ -16,6 +17,7 @@ use native.Mathlib.Nat.{mul-le-mul-left}
 use native.Mathlib.Omega.{arith}
 use lib.Dec.{leb, eqb}
 use lib.ListN.{length, getD}
+use lib.Seq.{ext-getD}
 use borrow.Author.Tests.{eqb-true, eq-eqb, ne-eqb, leb-true, le-leb}
 use Rattle.laws.specs.Tests.{by-eq, by-lt, both, both-is}
 use Rattle.table.specs.Table.{parent}
@@ -25,7 +27,7 @@ use Rattle.slopes.specs.declared.Slope.{Slope}
 use Rattle.slopes.specs.SlopeLaws.{edge-positive}
 use Rattle.slopes.specs.Slopes.{acrossOf, upOf, edge}
 use Rattle.drawing.specs.Drawing.{Drawing, largest, placed, nodeFits}
-use Rattle.drawing.specs.PathLaws.{Adds}
+use Rattle.drawing.specs.PathLaws.{Adds, adds-le}
 
 ------------------------------------------------------------------------
 -- Drawings
@@ -165,6 +167,29 @@ pub drawn-times : {limit : ℕ} {P R : List ℕ} {rule : Rule} {s : Drawing} →
 drawn-times {rule = rule} {s} tree d v a l =
     let across = edge-positive tree rule v a l .0 in
     omega (arith, mul-le-mul-left (getD (s .times) v 0) across, d .x .adds .at v a l, d .x .within v l)
+
+module _ {P R : List ℕ} (tree : Tree P R) {limit : ℕ} {rule : Rule} where
+  coordinate-one : {S T : List ℕ} {part : Slope → ℕ} {X Y : List ℕ} → Coordinate limit P R rule S part X
+      → Coordinate limit P R rule T part Y → ((z : ℕ) → z < length P → getD S z 0 ≡ getD T z 0) → X ≡ Y
+  coordinate-one {S} {T} {part} {X} {Y} a b same =
+      ext-getD 0 X Y (a .long ∙ sym (b .long))
+      (λ i h.
+      let inside : i < length P = omega (arith, a .long) in
+      omega (
+        arith,
+        adds-le tree (a .adds) (b .adds) (λ z p l. omega (arith, step z l)) i inside,
+        adds-le tree (b .adds) (a .adds) (λ z p l. omega (arith, step z l)) i inside,
+      ))
+    where
+      step : (z : ℕ) → z < length P → stepOf P R rule part S z ≡ stepOf P R rule part T z
+      step z l = ap (λ k. k * part (edge P R rule z)) (same z l)
+
+  pub drawn-one : {s t : Drawing} → Drawn limit P R rule s → Drawn limit P R rule t
+      → ((z : ℕ) → z < length P → getD (s .times) z 0 ≡ getD (t .times) z 0) → s ≡ t
+  drawn-one {s} {t} a b same =
+      same-drawing
+      (ext-getD 0 (s .times) (t .times) (a .long ∙ sym (b .long)) (λ i h. same i (omega (arith, a .long))))
+      (coordinate-one (a .x) (b .x) same) (coordinate-one (a .y) (b .y) same)
 
 ------------------------------------------------------------------------
 -- The frame

@@ -3,6 +3,7 @@
 --   Adds P step X     == X has 0 for the root, and for every other node its parent's entry and the node's step
 --   path-adds         == the sums along the paths do that,
 --   adds-path            and nothing else does
+--   adds-le           == by steps that are no smaller, no entry is smaller
 --   adds-under        == an entry is at least each step on the path
 --   stepBy P R step v == v's step, where it goes by its number
 --   reach P R step v  == what v's path sums to then, and all steps with smaller numbers: the most of any path through v
@@ -106,6 +107,28 @@ module _ {P R : List ℕ} (tree : Tree P R) where
           adds .at z a h
           ∙ ap (λ i. i + g z) (go k (parent P z) (tree .inside z h) (climb-shift P k z ∙ e))
           ∙ sym (path-step g z a h))
+
+  pub adds-le : {g h : ℕ → ℕ} {X Y : List ℕ} → Adds P g X → Adds P h Y
+      → ((z : ℕ) → 0 < z → z < length P → g z ≤ h z) → (v : ℕ) → v < length P → getD X v 0 ≤ getD Y v 0
+  unfolding climb
+  adds-le {g} {h} {X} {Y} a b less v l = go (length P) v l (tree .leads-home v l)
+    where
+      root : (z : ℕ) → z ≡ 0 → getD X z 0 ≤ getD Y z 0
+      root z e = omega (arith, ap (λ (w : ℕ). getD X w 0) e, a .root)
+
+      go : (k z : ℕ) → z < length P → climb P k z ≡ 0 → getD X z 0 ≤ getD Y z 0
+      go zero z i e = root z e
+      go (suc k) z i e =
+          by-eq z 0 (root z)
+          (λ ne.
+          let above : 0 < z = omega arith in
+          omega (
+            arith,
+            a .at z above i,
+            b .at z above i,
+            less z above i,
+            go k (parent P z) (tree .inside z i) (climb-shift P k z ∙ e),
+          ))
 
   pub path-cong : (g h : ℕ → ℕ) → ((z : ℕ) → 0 < z → z < length P → g z ≡ h z) → (v : ℕ) → v < length P
       → pathSum P g v ≡ pathSum P h v
