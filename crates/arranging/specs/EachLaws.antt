@@ -11,7 +11,6 @@
 --   turn-goes-on, turn-stops == what comes of the first lengthen of the lists, accepted or refused
 use mathlib.Core.Bool.{Bool, true, cond, not}
 use mathlib.Core.List.{List, [], _∷_, _++_}
-use mathlib.Core.Logic.{⊎-elim}
 use mathlib.Core.Option.{Option, none, some}
 use mathlib.Core.Path.{_≡_, refl, sym, ap, ap₂, _∙_}
 use Prim.Native.Nat.{ℕ, suc, _+_, _≤_, _<_}
@@ -27,7 +26,7 @@ use Rattle.slopes.specs.declared.Rule.{Rule}
 use Rattle.drawing.specs.declared.Framed.{Framed}
 use Rattle.drawing.specs.declared.Framed.the-variants as framed
 use Rattle.drawing.specs.Drawing.{Sheet, lengthsFit, frame, accepted}
-use Rattle.stretching.specs.CallLaws.{Untouched, Stretching, lengthen-does}
+use Rattle.stretching.specs.CallLaws.{accepted-stretches}
 use Rattle.stretching.specs.Stretching.{lengthen}
 use Rattle.arranging.specs.declared.Arranged.{Arranged}
 use Rattle.arranging.specs.declared.Arranged.the-variants.{Frame, Refused}
@@ -49,12 +48,7 @@ module _ (L : Limits) (P R : List ℕ) (rule : Rule) (work : ℕ) where
   -- an accepted lengthen answers the frame of what it leaves
   framed-is : (s : Sheet) (v c : ℕ) → accepted (lengthen L P R rule s work v c .answer) ≡ true
       → lengthen L P R rule s work v c .answer ≡ frame (lengthen L P R rule s work v c .left .drawing)
-  unfolding accepted
-  framed-is s v c e =
-      ⊎-elim (λ (u : Untouched s (lengthen L P R rule s work v c)). absurd (differ e (ap accepted (u .answer))))
-      (λ (m : Stretching L P R rule v c (s .held) (s .drawing) (lengthen L P R rule s work v c .left .drawing)
-      (lengthen L P R rule s work v c)). m .answer)
-      (lengthen-does L P R rule s work v c)
+  framed-is s v c e = accepted-stretches L P R rule s work v c e .answer
 
   -- what comes of a lengthen whose outcome is o and of those after it, by whether it is accepted
   abbrev chosen : Outcome Framed Sheet → ℕ → List ℕ → List ℕ → Bool → Outcome Arranged Sheet

@@ -18,7 +18,7 @@ use native.Mathlib.Omega.{arith}
 use lib.Dec.{eqb}
 use lib.IntN.{ℤ}
 use lib.ListN.{length, getD}
-use borrow.Author.Tests.{eq-eqb, ne-eqb, le-ltb}
+use borrow.Author.Tests.{eq-eqb, le-ltb}
 use Rattle.laws.specs.Refusals.{orElse-second, orElse-none, refuseLeast-all}
 use Rattle.laws.specs.Search.{Refusal, refusedOr, Outcome, settle}
 use Rattle.laws.specs.Tests.{by-eq, differ, neither-is}
@@ -40,7 +40,7 @@ use Rattle.drawing.specs.PathLaws.{adds-path, path-cong}
 use Rattle.drawing.specs.SheetLaws.{Sound}
 use Rattle.stretching.specs.CallLaws.{Untouched, Stretching, lengthen-does, shorten-does}
 use Rattle.stretching.specs.Stretching.{isHeld, lengthen, shorten}
-use Rattle.stretching.specs.StretchLaws.{Stretch}
+use Rattle.stretching.specs.StretchLaws.{stretch-counts}
 use Rattle.holding.specs.Holding.{entry, hold}
 use Rattle.holding.specs.HoldLaws.{Marking, hold-does, held-here, held-others}
 use Rattle.arranging.specs.Arranging.{eachFault, inTurn, lengthenEach}
@@ -65,30 +65,10 @@ pub record LimitsFit (L : Limits) : Type 0 where
 ------------------------------------------------------------------------
 -- One call
 
-counts-here : (v z k : ℕ) → v ≡ z → cond (eqb v z) k 0 ≡ k
-counts-here v z k e = rw (eq-eqb v z e) refl
-
-counts-nowhere : (v z k : ℕ) → (v ≡ z → ⊥) → cond (eqb v z) k 0 ≡ 0
-counts-nowhere v z k ne = rw (ne-eqb v z ne) refl
-
--- a stretched edge gets its count, and no other anything
-stretch-counts : {P R : List ℕ} {rule : Rule} {v c : ℕ} {a b : Drawing} → Stretch P R rule v c a b → (z : ℕ)
-    → z < length P → getD (b .times) z 0 ≡ getD (a .times) z 0 + cond (eqb v z) c 0
-stretch-counts {v = v} {c} {a} {b} m z l =
-    by-eq v z
-    (λ e. omega (
-      arith,
-      ap (λ (y : ℕ). getD (a .times) y 0) e,
-      ap (λ (y : ℕ). getD (b .times) y 0) e,
-      m .here,
-      counts-here v z c e,
-    ))
-    (λ ne. omega (arith, m .other z l (λ e. ne (sym e)), counts-nowhere v z c ne))
-
 -- a call that does not free z, and is about z, holds it
 not-freed : (on : Bool) (v z : ℕ) → v ≡ z → _≡_ {A = ℕ} (cond on 0 (cond (eqb v z) 1 0)) 0 → on ≡ true
 not-freed true v z e f = refl
-not-freed false v z e f = absurd (omega (arith, sym (counts-here v z 1 e) ∙ f))
+not-freed false v z e f = absurd (omega (arith, ap {B = ℕ} (λ b. cond b 1 0) (eq-eqb v z e)))
 
 module _ (L : Limits) (P R : List ℕ) (rule : Rule) where
   -- what a call counts for z: its count if it is accepted

@@ -8,6 +8,8 @@
 --   lengthen-does, shorten-does == lengthen and shorten refuse or stretch
 --   lengthen-sound              == what lengthen leaves of a sheet is one
 --   lengthen-accepted, ..       == what an accepted one was given, and what it left
+--   accepted-free               == by the test of its answer: an accepted lengthen was given a free edge,
+--   accepted-stretches             and stretched it
 --   lengthen-made               == of a free edge, where no place goes too far, lengthen is accepted
 --   shorten-undoes              == shorten undoes lengthen
 --   lengthen-0, shorten-0       == of a free edge count 0 changes nothing and is no ground for a refusal
@@ -25,12 +27,12 @@ use Rattle.laws.specs.Refusals.{orElse-second, orElse-none, refuse-no, refuse-n
 use Rattle.laws.specs.Refusals.{settle-none}
 use Rattle.laws.specs.Search.{least, Refusal, refuse, _orElse_, Outcome}
 use Rattle.laws.specs.SearchLaws.{least-found, least-is, least-none}
-use Rattle.laws.specs.Tests.{neither, neither-is, either-first, either-second}
+use Rattle.laws.specs.Tests.{differ, neither, neither-is, either-first, either-second}
 use Rattle.table.specs.declared.Limits.{Limits}
 use Rattle.slopes.specs.declared.Rule.{Rule}
 use Rattle.drawing.specs.declared.Framed.{Framed}
 use Rattle.drawing.specs.declared.Framed.the-variants.{Frame, Refused}
-use Rattle.drawing.specs.Drawing.{Drawing, Sheet, sheetOf, frame, sheetFault, redrawn}
+use Rattle.drawing.specs.Drawing.{Drawing, Sheet, sheetOf, frame, accepted, sheetFault, redrawn}
 use Rattle.drawing.specs.DrawingLaws.{Drawn}
 use Rattle.drawing.specs.CallLaws.{settled, Inspected, inspected, inspected-again}
 use Rattle.drawing.specs.SheetLaws.{Sound}
@@ -252,6 +254,24 @@ module _ (L : Limits) (P R : List ℕ) (rule : Rule) (s : Sheet) (work v c : ℕ
                 (x .inspected .sound .drawn)
                 (omega arith);
           })
+
+  pub accepted-free : accepted (lengthen L P R rule s work v c .answer) ≡ true → Free L P R rule s work v
+  unfolding lengthen accepted
+  accepted-free = go (stretchFault L P R rule s work v) refl
+    where
+      go : (f : Option Refusal) → stretchFault L P R rule s work v ≡ f
+          → accepted (redrawn (f orElse tooFar) s onSheet .answer) ≡ true → Free L P R rule s work v
+      go none e a = free L P R rule s work v e
+      go (some r) e a = absurd (differ a refl)
+
+  pub accepted-stretches : (let o = lengthen L P R rule s work v c in
+      accepted (o .answer) ≡ true → Stretching L P R rule v c (s .held) (s .drawing) (o .left .drawing) o)
+  unfolding accepted
+  accepted-stretches a =
+      ⊎-elim (λ (u : Untouched s (lengthen L P R rule s work v c)). absurd (differ a (ap accepted (u .answer))))
+      (λ (m : Stretching L P R rule v c (s .held) (s .drawing) (lengthen L P R rule s work v c .left .drawing)
+      (lengthen L P R rule s work v c)). m)
+      lengthen-does
 
 pub lengthen-sound : (L : Limits) (P R : List ℕ) (rule : Rule) (s : Sheet) (work v c : ℕ)
     → Sound (L .place) P R rule s → Sound (L .place) P R rule (lengthen L P R rule s work v c .left)

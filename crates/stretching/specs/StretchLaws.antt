@@ -4,17 +4,21 @@
 --   offset P v d z          == what v's subtree is moved by, at z: d in the subtree, 0 outside
 --   Moved P v d X Y         == Y is the coordinate X with v's subtree moved on by d
 --   Stretch P R rule v c s t == t is the drawing s with v's edge c times its slope longer
+--   stretch-counts          == a stretched edge gets the count, and no other anything
+--   stretch-adds            == a coordinate of the longer drawing adds up its steps if that of the other does
 --   longer-stretch, shorter-stretch == lengthen takes s to t, and shorten t to s
 --   stretch-drawn, unstretch-drawn  == either is a drawing if the other is
 --   stretch-one, unstretch-one      == either is determined by the other
 use mathlib.Core.Bool.{true, false, cond}
 use mathlib.Core.List.{List}
-use mathlib.Core.Path.{_≡_, refl, sym, ap, subst⁻¹, _∙_}
+use mathlib.Core.Path.{_≡_, refl, sym, ap, subst, subst⁻¹, _∙_}
 use Prim.Native.Nat.{ℕ, _+_, _-_, _*_, _≤_, _<_}
 use native.Mathlib.Nat.{mul-le-mul-right}
 use native.Mathlib.Omega.{arith}
+use lib.Dec.{eqb}
 use lib.ListN.{length, getD, length-set}
 use lib.Seq.{getD-set-same, getD-set-other, ext-getD}
+use borrow.Author.Tests.{eq-eqb, ne-eqb}
 use Rattle.laws.specs.SearchLaws.{length-tabulate, getD-tabulate}
 use Rattle.laws.specs.Tests.{by-test, by-eq, differ}
 use Rattle.table.specs.Ancestry.{under-refl, under-parent, under-trans, under-antisym, under-root, under-on}
@@ -208,6 +212,13 @@ module _ {P R : List ℕ} {rule : Rule} {v c : ℕ} where
       (unmoved-one (a .x) (b .x)) (unmoved-one (a .y) (b .y))
 
   module _ {s t : Drawing} (m : Stretch P R rule v c s t) where
+    pub stretch-counts : (z : ℕ) → z < length P
+        → getD (t .times) z 0 ≡ getD (s .times) z 0 + cond (eqb v z) c 0
+    stretch-counts z l =
+        by-eq v z
+        (λ e. rw (eq-eqb v z e) (subst (λ (w : ℕ). getD (t .times) w 0 ≡ getD (s .times) w 0 + c) e (m .here)))
+        (λ ne. rw (ne-eqb v z ne) (omega (arith, m .other z l (λ e. ne (sym e)))))
+
     steps-here : (part : Slope → ℕ)
         → stepOf P R rule part (t .times) v ≡ stepOf P R rule part (s .times) v + c * part (edge P R rule v)
     steps-here part = ap (λ k. k * part (edge P R rule v)) (m .here) ∙ omega arith
@@ -215,6 +226,13 @@ module _ {P R : List ℕ} {rule : Rule} {v c : ℕ} where
     steps-other : (part : Slope → ℕ) (z : ℕ) → z < length P → (z ≡ v → ⊥)
         → stepOf P R rule part (t .times) z ≡ stepOf P R rule part (s .times) z
     steps-other part z lz ne = ap (λ k. k * part (edge P R rule z)) (m .other z lz ne)
+
+    pub stretch-adds : Tree P R → 0 < v → v < length P → (part : Slope → ℕ) {X Y : List ℕ}
+        → Moved P v (c * part (edge P R rule v)) X Y → Adds P (stepOf P R rule part (s .times)) X
+        → Adds P (stepOf P R rule part (t .times)) Y
+    stretch-adds tree av lv part w =
+        moved-adds tree av lv w (stepOf P R rule part (s .times)) (stepOf P R rule part (t .times)) (steps-here part)
+        (steps-other part)
 
 module _ {P R : List ℕ} (tree : Tree P R) {rule : Rule} {limit v c : ℕ} (av : 0 < v) (lv : v < length P) where
   -- what is taken away is there in the whole subtree
@@ -245,8 +263,7 @@ module _ {P R : List ℕ} (tree : Tree P R) {rule : Rule} {limit v c : ℕ} (av 
         → Coordinate limit P R rule (t .times) part Y
     coordinate-on part w k fits = record {
       long = w .to-long;
-      adds = moved-adds tree av lv w (stepOf P R rule part (s .times)) (stepOf P R rule part (t .times))
-          (steps-here m part) (steps-other m part) (k .adds);
+      adds = stretch-adds m tree av lv part w (k .adds);
       within = fits;
     }
 
