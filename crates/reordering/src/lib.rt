@@ -1,0 +1,1 @@
+// That lengthens may be made in any order. There is no code here.
