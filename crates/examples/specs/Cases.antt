@@ -2,7 +2,8 @@
 -- definitions. Frames count grid cells (request 101), the walk to a balanced slope tells its turns (request 104), post
 -- numbers come with the first of each subtree (request 107), a lot has a direction to itself (request 109), lines can
 -- be held (request 108), lengthens are made by lists (request 105), the small cabinet has limits of its own (request
--- 106), lots are brought to columns (request 110), and a number of lots has a tallest sheet (request 113).
+-- 106), lots are brought to columns (request 110), a number of lots has a tallest sheet (request 113), and lengthens are
+-- made in any order (request 114).
 --
 --   Case          == a case, with what document 01 says of it
 --   Holds c       == the definitions say so
@@ -41,6 +42,7 @@ use Rattle.holding.specs.Holding.{hold}
 use Rattle.arranging.specs.Arranging.{listsFault, eachFault, atPlace, inTurn, lengthenEach}
 use Rattle.arranging.specs.declared.Arranged.{Arranged}
 use Rattle.arranging.specs.declared.Arranged.the-variants as arranged
+use Rattle.reordering.specs.Reordering.{Lengthening, made, allAccepted, after}
 use Rattle.aligning.specs.Aligning as aligning
 use Rattle.aligning.specs.AlignLaws.{Obstacle, obstacle-none, beyond-none}
 use Rattle.aligning.specs.declared.Aligned.{Aligned}
@@ -82,6 +84,8 @@ pub data Case : Type 0 where
   Calls : Outcome Framed Sheet → Framed → Sheet → Case
   -- an outcome of a list of lengthens: the answer and the sheet
   Arranges : Outcome Arranged Sheet → Arranged → Sheet → Case
+  -- lengthens on the five-lot table's fresh sheet that are all accepted: the last one's answer and sheet, or layout's
+  Plays : Rule → List Lengthening → Framed → Sheet → Case
   -- what brings a lot of the five-lot table's balanced sheet to a column
   Aligns : Sheet → ℕ → ℕ → Aligned → Case
   -- an outcome of the call for the tallest sheet: the answer and the lists
@@ -99,6 +103,10 @@ pub data Case : Type 0 where
   -- what the program `sheet` prints for a table's file
   Prints : List ℕ → List ℕ → List ℕ → Case
 
+-- whatever the lists hold before
+abbrev anyFive : Sheet
+anyFive = let l : List ℕ = 7 ∷ 7 ∷ 7 ∷ 7 ∷ 7 ∷ [] in drawing.sheetOf (lent l l l) l
+
 unfoldable pub Holds : Case → Type 0
 Holds (Numbers P R s) =
     (tabulate (length P) (postNumber P R) ≡ s .last)
@@ -108,6 +116,10 @@ Holds (Reaches rule across up) =
     × (across ≤ small .place) × (up ≤ small .place)
 Holds (Calls o a s) = o ≡ record { answer = a; left = s }
 Holds (Arranges o a s) = o ≡ record { answer = a; left = s }
+Holds (Plays rule calls a s) =
+    let o = layout large fiveParents fiveRanks rule anyFive 20 in
+    (allAccepted large fiveParents fiveRanks rule (o .left) calls ≡ true)
+    × (after large fiveParents fiveRanks rule o calls ≡ record { answer = a; left = s })
 Holds (Aligns s v column r) = aligning.Says large fiveParents fiveRanks Balanced s 20 v column r
 Holds (Fills o a t) = o ≡ record { answer = a; left = t }
 Holds (Tallest n width height) =
@@ -131,10 +143,6 @@ free times x y = drawing.sheetOf (lent times x y) (0 ∷ 0 ∷ 0 ∷ 0 ∷ 0 ∷
 
 abbrev heldOne : List ℕ → List ℕ → List ℕ → Sheet
 heldOne times x y = drawing.sheetOf (lent times x y) (0 ∷ 1 ∷ 0 ∷ 0 ∷ 0 ∷ [])
-
--- whatever the lists hold before
-abbrev anyFive : Sheet
-anyFive = let l : List ℕ = 7 ∷ 7 ∷ 7 ∷ 7 ∷ 7 ∷ [] in drawing.sheetOf (lent l l l) l
 
 abbrev ones : List ℕ
 ones = 1 ∷ 1 ∷ 1 ∷ 1 ∷ 1 ∷ []
@@ -163,9 +171,26 @@ balancedHeld = heldOne ones balancedX balancedY
 abbrev stretchedOne : Sheet
 stretchedOne = free (1 ∷ 3 ∷ 1 ∷ 1 ∷ 1 ∷ []) (0 ∷ 3 ∷ 1 ∷ 4 ∷ 4 ∷ []) (0 ∷ 9 ∷ 4 ∷ 10 ∷ 11 ∷ [])
 
+abbrev stretchedOneHeld : Sheet
+stretchedOneHeld = heldOne (1 ∷ 3 ∷ 1 ∷ 1 ∷ 1 ∷ []) (0 ∷ 3 ∷ 1 ∷ 4 ∷ 4 ∷ []) (0 ∷ 9 ∷ 4 ∷ 10 ∷ 11 ∷ [])
+
 -- then lot 3 longer by 1
 abbrev stretchedBoth : Sheet
 stretchedBoth = free (1 ∷ 3 ∷ 1 ∷ 2 ∷ 1 ∷ []) (0 ∷ 3 ∷ 1 ∷ 5 ∷ 4 ∷ []) (0 ∷ 9 ∷ 4 ∷ 11 ∷ 11 ∷ [])
+
+-- lots 1, 3 and 4 longer by 2, 1 and 5: such calls, and the sheets under both rules
+infix 70 _by_
+abbrev _by_ : ℕ → ℕ → Lengthening
+v by c = record { node = v; count = c; work = 20 }
+
+abbrev morning : List ℕ
+morning = 1 ∷ 3 ∷ 1 ∷ 2 ∷ 6 ∷ []
+
+abbrev steepMorning : Sheet
+steepMorning = free morning (0 ∷ 3 ∷ 1 ∷ 5 ∷ 9 ∷ []) (0 ∷ 9 ∷ 4 ∷ 11 ∷ 21 ∷ [])
+
+abbrev balancedMorning : Sheet
+balancedMorning = free morning (0 ∷ 9 ∷ 1 ∷ 15 ∷ 21 ∷ []) (0 ∷ 6 ∷ 1 ∷ 8 ∷ 12 ∷ [])
 
 -- lot 1's line held; then lot 3 longer by 2
 abbrev steepHeld : Sheet
@@ -225,12 +250,21 @@ cases =
     ∷ Calls (lengthen large fiveParents fiveRanks Steep steep 20 1 2) (Frame 5 12) stretchedOne
     ∷ Calls (shorten large fiveParents fiveRanks Steep stretchedOne 20 1 3) (Refused 12 1) stretchedOne
     ∷ Calls (shorten large fiveParents fiveRanks Steep stretchedOne 20 1 2) (Frame 3 6) steep
-    -- lot 1 longer by 2 and lot 3 by 1, as two calls and as one; with lot 0 between them, which has no edge
+    -- lot 1 longer by 2 and 3 by 1, as two calls and as one; with lot 0 between them, which has no edge
     ∷ Calls (lengthen large fiveParents fiveRanks Steep stretchedOne 20 3 1) (Frame 6 12) stretchedBoth
     ∷ Arranges (lengthenEach large fiveParents fiveRanks Steep steep 20 (1 ∷ 3 ∷ []) (2 ∷ 1 ∷ []))
     (arranged.Frame 6 12) stretchedBoth
     ∷ Arranges (lengthenEach large fiveParents fiveRanks Steep steep 20 (1 ∷ 0 ∷ 3 ∷ []) (2 ∷ 1 ∷ 1 ∷ []))
     (arranged.Refused 10 0 2) stretchedOne
+    -- lots 1, 3 and 4 longer by 2, 1 and 5 in two orders, under both rules; no lengthen at all
+    ∷ Plays Steep (1 by 2 ∷ 3 by 1 ∷ 4 by 5 ∷ []) (Frame 10 22) steepMorning
+    ∷ Plays Steep (4 by 5 ∷ 1 by 2 ∷ 3 by 1 ∷ []) (Frame 10 22) steepMorning
+    ∷ Plays Balanced (1 by 2 ∷ 3 by 1 ∷ 4 by 5 ∷ []) (Frame 22 13) balancedMorning
+    ∷ Plays Balanced (3 by 1 ∷ 4 by 5 ∷ 1 by 2 ∷ []) (Frame 22 13) balancedMorning
+    ∷ Plays Steep [] (Frame 3 6) steep
+    -- where the order matters: lot 1 shorter by 2 before it is longer by 2; longer by 2 before it is held
+    ∷ Calls (shorten large fiveParents fiveRanks Steep steep 20 1 2) (Refused 12 1) steep
+    ∷ Calls (hold large fiveParents fiveRanks Steep stretchedOne 20 1 true) (Frame 5 12) stretchedOneHeld
     -- a count too few, beside a wrong root; no lengthens at all, of a sheet and of what is none
     ∷ Arranges (lengthenEach large (1 ∷ 0 ∷ 0 ∷ 1 ∷ 1 ∷ []) fiveRanks Steep steep 20 (1 ∷ 3 ∷ []) (2 ∷ []))
     (arranged.Refused 19 0 0) steep
@@ -338,14 +372,16 @@ unfolding AllHold Holds cases count least tabulate climb leads isChild children 
     shapeFault treeFault tableFault
     levels levelNumbers levelsFor slopeAt edge sumUp pathSum freshPlaces fresh largest frame placed nodeFits moved
     heldFits lotFits stretched beyond sheetFault edgeFault lotFault stretchFault layout lengthen shorten hold accepted
-    listsFault eachFault atPlace inTurn lengthenEach aligning.Says chainOf steepFrame lentFault tallest sideways
-    heading pairFault direction
+    listsFault eachFault atPlace inTurn lengthenEach made allAccepted after aligning.Says chainOf steepFrame lentFault
+    tallest sideways heading pairFault direction
     wordAt words statedNodes fileParents fileRanks openFault bytesOf allBytes fileOf digits decimal field lotLine
     lotLines sheetOf fileFault placesOfTable textOf sheetText
     monotone.placeBeyond checkFault widen span upward downward pathVectors turnsAt secondNode firstNode decide
 cases-hold =
     (refl, refl) and refl and refl and refl and refl and refl and refl and refl and refl
-    and refl and refl and refl and refl and refl and refl and refl and refl and refl and refl
+    and refl and refl and refl and refl and refl and refl
+    and (refl, refl) and (refl, refl) and (refl, refl) and (refl, refl) and (refl, refl) and refl and refl
+    and refl and refl and refl and refl
     and refl and refl and refl and refl and refl and refl
     and record { accepted = refl; there = refl } and record { accepted = refl; there = refl }
     and blocked balanced 5 refl (Obstacle.Uneven (λ c e. let is : c * 3 ≡ 2 = e in omega arith))
