@@ -109,7 +109,8 @@ bool lineage_layout(bool balanced, const uint32_t *parent, size_t parent_length,
                     size_t work_length, int64_t *reply, size_t reply_length);
 
 /* Makes the edge of `lot` longer by `count` times its slope: times[lot] grows by count, and the lot moves with its
- * whole subtree, held lines too. Reply: {1, width, height}. Refusals 1 to 10, 22, 11. Count 0 changes nothing. */
+ * whole subtree, held lines too. Reply: {1, width, height}. Refusals 1 to 10, 22, 11. Count 0 changes nothing.
+ * Lengthens that are all accepted on a sheet are so in every other order, with the same lists and frame at the end. */
 bool lineage_lengthen(bool balanced, const uint32_t *parent, size_t parent_length, const uint32_t *rank,
                       size_t rank_length, uint32_t *times, size_t times_length, uint32_t *x, size_t x_length,
                       uint32_t *y, size_t y_length, const uint32_t *held, size_t held_length, uint32_t *work,

@@ -459,7 +459,11 @@ class Sheet:
         return _ask(call, self._balanced, *lists, *arguments)
 
     def lengthen(self, lot: int, count: int) -> Frame:
-        """Makes the edge of a lot longer by count times its slope; its whole subtree moves along, held lines too."""
+        """Makes the edge of a lot longer by count times its slope; its whole subtree moves along, held lines too.
+
+        Lengthens that are all accepted on a sheet are so in every other order, with the same sheet at the end. That
+        this is so is proved.
+        """
         return self._ask(self._own("lengthen"), _number(lot), _number(count))
 
     def shorten(self, lot: int, count: int) -> Frame:

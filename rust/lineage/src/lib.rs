@@ -516,6 +516,25 @@ impl Sheet {
     }
 
     /// Makes the edge of a lot longer by `count` times its slope; its whole subtree moves along, held lines too.
+    ///
+    /// Lengthens that are all accepted on a sheet are so in every other order, with the same sheet at the end. That
+    /// this is so is proved.
+    ///
+    /// ```
+    /// use lineage::{Rule, Sheet, Tree};
+    ///
+    /// let tree = Tree::new(vec![0, 0, 0, 1, 1], vec![0, 0, 1, 0, 1])?;
+    /// let mut sheet = Sheet::new(tree, Rule::Balanced)?;
+    /// let mut copy = sheet.clone();
+    /// for (lot, count) in [(1, 2), (3, 1), (4, 5)] {
+    ///     sheet.lengthen(lot, count)?;
+    /// }
+    /// for (lot, count) in [(4, 5), (1, 2), (3, 1)] {
+    ///     copy.lengthen(lot, count)?;
+    /// }
+    /// assert!(sheet == copy && sheet.frame() == copy.frame());
+    /// # Ok::<(), lineage::Refused>(())
+    /// ```
     pub fn lengthen(&mut self, lot: u32, count: u32) -> Result<Frame, Refused> {
         self.stretch(Call::Lengthen, self.cabinet.entries().lengthen, lot, count)
     }
