@@ -9,6 +9,7 @@
 --   each-last     == so it is where none is refused, and the answer is that frame
 --   each-place    == a refusal's place is 0, or one in the lists
 --   turn-goes-on, turn-stops == what comes of the first lengthen of the lists, accepted or refused
+--   each-turns    == the call is these lengthens where none of the refusals with place 0 applies
 use mathlib.Core.Bool.{Bool, true, cond, not}
 use mathlib.Core.List.{List, [], _∷_, _++_}
 use mathlib.Core.Option.{Option, none, some}
@@ -149,8 +150,7 @@ module _ (L : Limits) (P R : List ℕ) (rule : Rule) (work : ℕ) where
 -- The call
 
 module _ (L : Limits) (P R : List ℕ) (rule : Rule) (s : Sheet) (work : ℕ) (lots counts : List ℕ) where
-  -- the lengthens follow where none of the refusals with place 0 applies
-  each-turns : eachFault L P R rule s work lots counts ≡ none
+  pub each-turns : eachFault L P R rule s work lots counts ≡ none
       → lengthenEach L P R rule s work lots counts ≡ inTurn L P R rule work s 1 lots counts
   unfolding lengthenEach
   each-turns e = settle-none _ s _ _ _ e

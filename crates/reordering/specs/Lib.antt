@@ -1,2 +1,3 @@
 pub mod Reordering
 pub mod ReorderLaws
+pub mod EachOrder
