@@ -172,25 +172,26 @@ abbrev stretchedOne : Sheet
 stretchedOne = free (1 ∷ 3 ∷ 1 ∷ 1 ∷ 1 ∷ []) (0 ∷ 3 ∷ 1 ∷ 4 ∷ 4 ∷ []) (0 ∷ 9 ∷ 4 ∷ 10 ∷ 11 ∷ [])
 
 abbrev stretchedOneHeld : Sheet
-stretchedOneHeld = heldOne (1 ∷ 3 ∷ 1 ∷ 1 ∷ 1 ∷ []) (0 ∷ 3 ∷ 1 ∷ 4 ∷ 4 ∷ []) (0 ∷ 9 ∷ 4 ∷ 10 ∷ 11 ∷ [])
+stretchedOneHeld = let d = stretchedOne .drawing in heldOne (d .times) (d .x) (d .y)
 
 -- then lot 3 longer by 1
 abbrev stretchedBoth : Sheet
 stretchedBoth = free (1 ∷ 3 ∷ 1 ∷ 2 ∷ 1 ∷ []) (0 ∷ 3 ∷ 1 ∷ 5 ∷ 4 ∷ []) (0 ∷ 9 ∷ 4 ∷ 11 ∷ 11 ∷ [])
 
--- lots 1, 3 and 4 longer by 2, 1 and 5: such calls, and the sheets under both rules
+-- a lengthen of one of the five lots
 infix 70 _by_
 abbrev _by_ : ℕ → ℕ → Lengthening
 v by c = record { node = v; count = c; work = 20 }
 
-abbrev morning : List ℕ
-morning = 1 ∷ 3 ∷ 1 ∷ 2 ∷ 6 ∷ []
+-- lots 1, 3 and 4 longer by 2, 1 and 5
+abbrev longerTimes : List ℕ
+longerTimes = 1 ∷ 3 ∷ 1 ∷ 2 ∷ 6 ∷ []
 
-abbrev steepMorning : Sheet
-steepMorning = free morning (0 ∷ 3 ∷ 1 ∷ 5 ∷ 9 ∷ []) (0 ∷ 9 ∷ 4 ∷ 11 ∷ 21 ∷ [])
+abbrev steepLonger : Sheet
+steepLonger = free longerTimes (0 ∷ 3 ∷ 1 ∷ 5 ∷ 9 ∷ []) (0 ∷ 9 ∷ 4 ∷ 11 ∷ 21 ∷ [])
 
-abbrev balancedMorning : Sheet
-balancedMorning = free morning (0 ∷ 9 ∷ 1 ∷ 15 ∷ 21 ∷ []) (0 ∷ 6 ∷ 1 ∷ 8 ∷ 12 ∷ [])
+abbrev balancedLonger : Sheet
+balancedLonger = free longerTimes (0 ∷ 9 ∷ 1 ∷ 15 ∷ 21 ∷ []) (0 ∷ 6 ∷ 1 ∷ 8 ∷ 12 ∷ [])
 
 -- lot 1's line held; then lot 3 longer by 2
 abbrev steepHeld : Sheet
@@ -250,17 +251,17 @@ cases =
     ∷ Calls (lengthen large fiveParents fiveRanks Steep steep 20 1 2) (Frame 5 12) stretchedOne
     ∷ Calls (shorten large fiveParents fiveRanks Steep stretchedOne 20 1 3) (Refused 12 1) stretchedOne
     ∷ Calls (shorten large fiveParents fiveRanks Steep stretchedOne 20 1 2) (Frame 3 6) steep
-    -- lot 1 longer by 2 and 3 by 1, as two calls and as one; with lot 0 between them, which has no edge
+    -- lot 1 longer by 2 and lot 3 by 1, as two calls and as one; with lot 0 between them, which has no edge
     ∷ Calls (lengthen large fiveParents fiveRanks Steep stretchedOne 20 3 1) (Frame 6 12) stretchedBoth
     ∷ Arranges (lengthenEach large fiveParents fiveRanks Steep steep 20 (1 ∷ 3 ∷ []) (2 ∷ 1 ∷ []))
     (arranged.Frame 6 12) stretchedBoth
     ∷ Arranges (lengthenEach large fiveParents fiveRanks Steep steep 20 (1 ∷ 0 ∷ 3 ∷ []) (2 ∷ 1 ∷ 1 ∷ []))
     (arranged.Refused 10 0 2) stretchedOne
     -- lots 1, 3 and 4 longer by 2, 1 and 5 in two orders, under both rules; no lengthen at all
-    ∷ Plays Steep (1 by 2 ∷ 3 by 1 ∷ 4 by 5 ∷ []) (Frame 10 22) steepMorning
-    ∷ Plays Steep (4 by 5 ∷ 1 by 2 ∷ 3 by 1 ∷ []) (Frame 10 22) steepMorning
-    ∷ Plays Balanced (1 by 2 ∷ 3 by 1 ∷ 4 by 5 ∷ []) (Frame 22 13) balancedMorning
-    ∷ Plays Balanced (3 by 1 ∷ 4 by 5 ∷ 1 by 2 ∷ []) (Frame 22 13) balancedMorning
+    ∷ Plays Steep (1 by 2 ∷ 3 by 1 ∷ 4 by 5 ∷ []) (Frame 10 22) steepLonger
+    ∷ Plays Steep (4 by 5 ∷ 1 by 2 ∷ 3 by 1 ∷ []) (Frame 10 22) steepLonger
+    ∷ Plays Balanced (1 by 2 ∷ 3 by 1 ∷ 4 by 5 ∷ []) (Frame 22 13) balancedLonger
+    ∷ Plays Balanced (3 by 1 ∷ 4 by 5 ∷ 1 by 2 ∷ []) (Frame 22 13) balancedLonger
     ∷ Plays Steep [] (Frame 3 6) steep
     -- where the order matters: lot 1 shorter by 2 before it is longer by 2; longer by 2 before it is held
     ∷ Calls (shorten large fiveParents fiveRanks Steep steep 20 1 2) (Refused 12 1) steep
