@@ -8,9 +8,10 @@
 --   Last .. w h   == the last of the lists is made on what those before it leave, and answers the frame w by h
 --   each-last     == so it is where none is refused, and the answer is that frame
 --   each-place    == a refusal's place is 0, or one in the lists
+--   refused-no-frame == a refusal is no frame
 --   turn-goes-on, turn-stops == what comes of the first lengthen of the lists, accepted or refused
 --   each-turns    == the call is these lengthens where none of the refusals with place 0 applies
-use mathlib.Core.Bool.{Bool, true, cond, not}
+use mathlib.Core.Bool.{Bool, cond, not}
 use mathlib.Core.List.{List, [], _∷_, _++_}
 use mathlib.Core.Option.{Option, none, some}
 use mathlib.Core.Path.{_≡_, refl, sym, ap, ap₂, _∙_}
@@ -39,18 +40,16 @@ use Rattle.arranging.specs.Arranging.{listsFault, eachFault, atPlace, wh
 abbrev answered : Outcome Arranged Sheet → Arranged
 answered o = o .answer
 
+pub refused-no-frame : {k v p w h : ℕ} → Refused k v p ≡ Frame w h → ⊥
+refused-no-frame e = let z : _≡_ {A = ℕ} 0 1 = cc in omega arith
+
 -- a frame is answered to a frame alone
 at-frame : (a : Framed) (place : ℕ) {w h : ℕ} → atPlace a place ≡ Frame w h → a ≡ framed.Frame w h
 unfolding atPlace
 at-frame (framed.Frame w h) place e = cc
-at-frame (framed.Refused n u) place e = absurd (let q : _≡_ {A = ℕ} 0 1 = cc in omega arith)
+at-frame (framed.Refused n u) place e = absurd (refused-no-frame e)
 
 module _ (L : Limits) (P R : List ℕ) (rule : Rule) (work : ℕ) where
-  -- an accepted lengthen answers the frame of what it leaves
-  framed-is : (s : Sheet) (v c : ℕ) → accepted (lengthen L P R rule s work v c .answer) ≡ true
-      → lengthen L P R rule s work v c .answer ≡ frame (lengthen L P R rule s work v c .left .drawing)
-  framed-is s v c e = accepted-stretches L P R rule s work v c e .answer
-
   -- what comes of a lengthen whose outcome is o and of those after it, by whether it is accepted
   abbrev chosen : Outcome Framed Sheet → ℕ → List ℕ → List ℕ → Bool → Outcome Arranged Sheet
   chosen o place lots counts ok =
@@ -79,8 +78,8 @@ module _ (L : Limits) (P R : List ℕ) (rule : Rule) (work : ℕ) where
   turn-place : (s : Sheet) (place : ℕ) (lots counts : List ℕ) {k z p : ℕ}
       → inTurn L P R rule work s place lots counts .answer ≡ Refused k z p → p < place + length lots
   unfolding inTurn atPlace frame
-  turn-place s place [] counts e = absurd (let q : _≡_ {A = ℕ} 0 1 = cc in omega arith)
-  turn-place s place (v ∷ lots) [] e = absurd (let q : _≡_ {A = ℕ} 0 1 = cc in omega arith)
+  turn-place s place [] counts e = absurd (refused-no-frame (sym e))
+  turn-place s place (v ∷ lots) [] e = absurd (refused-no-frame (sym e))
   turn-place s place (v ∷ lots) (c ∷ counts) e =
       let o = lengthen L P R rule s work v c in
       next-place (o .answer) (o .left) place lots counts (turn-place (o .left) (place + 1) lots counts) e
@@ -92,7 +91,7 @@ module _ (L : Limits) (P R : List ℕ) (rule : Rule) (work : ℕ) where
       let o = lengthen L P R rule s work v c in
       by-test (accepted (o .answer))
       (λ e. ap (chosen o place [] []) e
-      ∙ ap (λ a. record { answer = atPlace a place; left = o .left }) (sym (framed-is s v c e)))
+      ∙ ap (λ a. record { answer = atPlace a place; left = o .left }) (sym (accepted-stretches L P R rule s work v c e .answer)))
       (λ e. ap (chosen o place [] []) e)
 
   -- where none of the first ones is refused, the others follow on what they leave

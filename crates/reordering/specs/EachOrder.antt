@@ -9,7 +9,6 @@ use mathlib.Core.Logic.{⊎-elim}
 use mathlib.Core.Option.{none}
 use mathlib.Core.Path.{_≡_, refl, sym, ap, _∙_}
 use Prim.Native.Nat.{ℕ, _+_}
-use native.Mathlib.Omega.{arith}
 use lib.ListN.{length}
 use borrow.Author.Tests.{eq-eqb}
 use Rattle.laws.specs.Refusals.{orElse-second, orElse-none, refuse-no, settle-accepted}
@@ -25,15 +24,12 @@ use Rattle.stretching.specs.Stretching.{lengthen}
 use Rattle.arranging.specs.Arranging.{listsFault, eachFault, whole, inTurn, lengthenEach}
 use Rattle.arranging.specs.declared.Arranged.{Arranged}
 use Rattle.arranging.specs.declared.Arranged.the-variants.{Frame, Refused}
-use Rattle.arranging.specs.EachLaws.{turn-goes-on, turn-stops, each-turns}
+use Rattle.arranging.specs.EachLaws.{refused-no-frame, turn-goes-on, turn-stops, each-turns}
 use Rattle.reordering.specs.Reordering.{Lengthening, made, allAccepted, after}
 use Rattle.reordering.specs.ReorderLaws.{reordered}
 
 unfoldable pub lengthensOf : ℕ → List ℕ → List ℕ → List Lengthening
 lengthensOf work lots counts = zipWith (λ v c. record { node = v; count = c; work = work }) lots counts
-
-refused-no-frame : {k v p w h : ℕ} → Refused k v p ≡ Frame w h → ⊥
-refused-no-frame e = let z : _≡_ {A = ℕ} 0 1 = cc in omega arith
 
 module _ (L : Limits) (P R : List ℕ) (rule : Rule) (work : ℕ) where
   -- a lengthen that stretched goes on
