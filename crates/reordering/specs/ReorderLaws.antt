@@ -3,7 +3,7 @@
 -- and so no place beyond the last one's: so no order goes too far.
 --
 --   lengths calls z     == the sum of the counts of the calls of z
---   stretchable .. s c  == the call c is refused on the sheet s for no ground but the limit
+--   stretchable .. s c  == the call c is refused on the sheet s for no ground but the limit: by count 0 it is accepted
 --   Grown .. s calls t  == t is a sheet, that of s with each edge longer by the sum, and the calls are stretchable
 --   accepted-grown      == accepted calls leave such a sheet,
 --   grown-order            which it is in any order,
@@ -21,7 +21,7 @@ use native.Mathlib.Nat.{ℕ-set, mul-le-mul-right}
 use native.Mathlib.Omega.{arith}
 use lib.Dec.{eqb}
 use lib.ListN.{length, getD}
-use Rattle.laws.specs.Search.{Refusal, refusedOr, Outcome}
+use Rattle.laws.specs.Search.{Refusal, Outcome}
 use Rattle.laws.specs.Tests.{both, both-is, differ}
 use Rattle.table.specs.declared.Limits.{Limits}
 use Rattle.table.specs.Table.{tableFault, large, small}
@@ -34,9 +34,9 @@ use Rattle.drawing.specs.Drawing.{Drawing, Sheet, lengthsFit, freshSheet, frame
 use Rattle.drawing.specs.DrawingLaws.{Coordinate, Drawn, drawn-one}
 use Rattle.drawing.specs.PathLaws.{adds-le}
 use Rattle.drawing.specs.SheetLaws.{Sound}
-use Rattle.stretching.specs.CallLaws.{Free, free, free-again, no-beyond, accepted-free, accepted-stretches}
-use Rattle.stretching.specs.CallLaws.{lengthen-made}
-use Rattle.stretching.specs.Stretching.{stretchFault}
+use Rattle.stretching.specs.CallLaws.{Free, free-again, no-beyond, accepted-free, accepted-stretches}
+use Rattle.stretching.specs.CallLaws.{lengthen-made, lengthen-0}
+use Rattle.stretching.specs.Stretching.{lengthen}
 use Rattle.stretching.specs.StretchLaws.{longer, Moved, Stretch, stretch-counts, longer-stretch, stretch-adds}
 use Rattle.reordering.specs.Reordering.{Lengthening, made, allAccepted, after, Alike, AnyOrder}
 
@@ -78,7 +78,7 @@ module _ (L : Limits) (P R : List ℕ) (rule : Rule) where
   -- Calls that a sheet refuses for no ground but the limit
 
   unfoldable pub stretchable : Sheet → Lengthening → Bool
-  stretchable s c = refusedOr (λ k v. false) (stretchFault L P R rule s (c .work) (c .node)) true
+  stretchable s c = accepted (lengthen L P R rule s (c .work) (c .node) 0 .answer)
 
   abbrev pub allStretchable : Sheet → List Lengthening → Bool
   allStretchable s calls = foldr (λ (c : Lengthening) (b : Bool). stretchable s c && b) true calls
@@ -96,20 +96,16 @@ module _ (L : Limits) (P R : List ℕ) (rule : Rule) where
 
   stretchable-free : (s : Sheet) (c : Lengthening) → stretchable s c ≡ true → Free L P R rule s (c .work) (c .node)
   unfolding stretchable
-  stretchable-free s c = go (stretchFault L P R rule s (c .work) (c .node)) refl
-    where
-      go : (f : Option Refusal) → stretchFault L P R rule s (c .work) (c .node) ≡ f
-          → refusedOr (λ k v. false) f true ≡ true → Free L P R rule s (c .work) (c .node)
-      go none e a = free L P R rule s (c .work) (c .node) e
-      go (some r) e a = absurd (differ a refl)
+  stretchable-free s c = accepted-free L P R rule s (c .work) (c .node) 0
 
   -- on another sheet with the same edges held
   free-stretchable : {s t : Sheet} (c : Lengthening) → Free L P R rule s (c .work) (c .node)
       → Sound (L .place) P R rule t → t .held ≡ s .held → stretchable t c ≡ true
-  unfolding stretchable
-  free-stretchable c f sound same =
-      ap (λ o. refusedOr (λ k v. false) o true)
-      (free-again (f .examined) sound (ap (λ (H : List ℕ). eqb (getD H (c .node) 0) 1) same ∙ f .free))
+  unfolding stretchable accepted frame
+  free-stretchable {t = t} c f sound same =
+      let fine = free-again (f .examined) sound (ap (λ (H : List ℕ). eqb (getD H (c .node) 0) 1) same ∙ f .free) in
+      ap (λ (o : Outcome Framed Sheet). accepted (o .answer))
+      (lengthen-0 L P R rule t (c .work) (c .node) ∙ ap (λ r. redrawn r t t) fine)
 
   ------------------------------------------------------------------------
   -- What a list of accepted lengthens leaves
