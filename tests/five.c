@@ -171,6 +171,9 @@ static void lists_of_lengthens(void)
     lineage_layout(false, TABLE, SHEET, WORK, REPLY);
     expect("the same singly", replied(lengthened(1, 2), 1, 5, 12) && replied(lengthened(3, 1), 1, 6, 12));
     expect("the same sheet", is_arranged());
+    lineage_layout(false, TABLE, SHEET, WORK, REPLY);
+    expect("in the other order", replied(lengthened(3, 1), 1, 4, 6) && replied(lengthened(1, 2), 1, 6, 12));
+    expect("the same sheet again", is_arranged());
 
     lineage_layout(false, TABLE, SHEET, WORK, REPLY);
     expect("the root is second",

@@ -125,7 +125,8 @@ fn any_order(test: &str, limits: Limits, calls: &'static raw::Entries) {
             }
             full += usize::from(i128::from(right.1[1].max(right.1[2])) == limits.place + 1);
         }
-        println!("{test}, balanced {balanced}: {made} rearrangements, {different} others than the list, {full} full sheets");
+        println!("{test}, balanced {balanced}: {made} rearrangements, {different} of them others than the list");
+        println!("{test}, balanced {balanced}: {full} sheets with a place on the edge");
         assert!(different > made / 2 && full > 0);
     }
 }
