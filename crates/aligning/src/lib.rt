@@ -1,4 +1,5 @@
 // The call that says by what count a lot comes to a column (document 02, request 110).
+#![tactic(auto)]
 ghost use Rattle.std.specs.Prelude.{length};
 ghost use Rattle.table.specs.Numbering.{NumberedTree};
 ghost use Rattle.table.specs.Table.{large};
@@ -11,7 +12,7 @@ use stretching::{examine, too_far};
 use table::{Limits, Validity, get, large_limits};
 
 // The count that brings a lot to a column, none, or a refusal's number and lot.
-#[derive(Drop)]
+#[derive(Clone, Copy)]
 pub enum Aligned {
     Count(u32),
     None,

@@ -1,4 +1,5 @@
 // A list of lengthens in one call (document 02, request 105).
+#![tactic(auto)]
 ghost use Rattle.std.specs.Prelude.{◌≡◌, length};
 ghost use Rattle.table.specs.Table.{large};
 ghost use Rattle.drawing.specs.Drawing.{lent, sheet_of, sheet};
@@ -14,7 +15,7 @@ use stretching::lengthen_edge;
 use table::{Limits, Validity, large_limits, test_lengths};
 
 // What a list of lengthens answers: the frame, or the first refusal's number, its lot and its place in the lists.
-#[derive(Drop)]
+#[derive(Clone, Copy)]
 pub enum Arranged {
     Frame(u32, u32),
     Refused(u32, u32, usize),

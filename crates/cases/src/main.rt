@@ -4,6 +4,7 @@
 //
 // Each line ends with its lists, each mixed into one number: the two of a table, three, or the four of a sheet. What is
 // printed is compared with the output of tests/cases.py, which makes the same calls in plain Python.
+#![tactic(auto)]
 ghost use Rattle.std.specs.Prelude.{◌≤◌};
 
 use aligning::Aligned;
@@ -14,7 +15,7 @@ use slopes::Rule;
 use std::num::{wrapping_add_u32, wrapping_sub_u32, wrapping_sub_usize};
 
 // A tree and a rule: the shape, whether nodes are relabelled, whether the rule is balanced, and how many nodes.
-#[derive(Drop)]
+#[derive(Clone, Copy)]
 struct Case {
     shape: u32,
     relabelled: bool,
@@ -23,7 +24,7 @@ struct Case {
 }
 
 // A call of the list: 1 lengthens, 0 shortens and 2 holds, or frees where the count is 0; whose edge, and by how much.
-#[derive(Drop)]
+#[derive(Clone, Copy)]
 struct Call {
     kind: u32,
     node: u32,
@@ -31,7 +32,7 @@ struct Call {
 }
 
 // A lot, and the column that it is to come to.
-#[derive(Drop)]
+#[derive(Clone, Copy)]
 struct Goal {
     lot: u32,
     column: u32,

@@ -1,4 +1,5 @@
 // The call that holds an edge or frees it (document 02, request 108).
+#![tactic(auto)]
 ghost use Rattle.std.specs.Prelude.{◌≡◌, ◌<◌, length, set};
 ghost use Rattle.table.specs.Table.{large};
 ghost use Rattle.drawing.specs.Drawing.{sheet, Does};

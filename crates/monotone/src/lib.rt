@@ -6,6 +6,7 @@
 // neighbour's. The work list holds, of n numbers each, the cones, the parts across and up of the nodes' edges, and
 // the post-order. While u has its turn, the edges from u to the root are turned round, so that every edge is walked
 // away from u.
+#![tactic(auto)]
 ghost use Rattle.std.specs.Prelude.{List, ◌≡◌, ℕ, ◌+◌, ◌-◌, ◌*◌, ◌≤◌, ◌<◌, length, get_or, set};
 ghost use Rattle.laws.specs.Regions.{Only};
 ghost use Rattle.laws.specs.Search.{least};
@@ -23,7 +24,7 @@ ghost use Rattle.monotone.specs.Cones.{Grown};
 use table::{Limits, Validity, both_long, checked_limits, clear, get, number, put, validate};
 
 // What the check answers: every pair has a direction, the first pair that has none, or a refusal's number and node.
-#[derive(Drop)]
+#[derive(Clone, Copy)]
 pub enum Verdict {
     Monotone,
     Turns(u32, u32),
@@ -39,7 +40,7 @@ const SHUT: usize = 2;
 const SIDE: usize = 65536;
 
 // A vector of the plane: a difference of two places.
-#[derive(Drop)]
+#[derive(Clone, Copy)]
 struct Vector {
     across: i64,
     up: i64,
@@ -47,7 +48,7 @@ struct Vector {
 
 // What one vector more does to a cone: nothing, it becomes the counter-clockwise or the clockwise side, or no half
 // plane is left.
-#[derive(Drop)]
+#[derive(Clone, Copy)]
 enum Move {
     Keep,
     High,

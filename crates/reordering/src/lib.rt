@@ -1,1 +1,2 @@
 // That lengthens may be made in any order. There is no code here.
+#![tactic(auto)]

@@ -3,6 +3,7 @@
 // One byte more than the longest accepted file is read: what follows does not change the text (`cut_same`). A program
 // has no exit status of its own: where the input cannot be read or the text cannot be written, a line on standard error
 // says so, and no refusal is printed for a file that was not read.
+#![tactic(auto)]
 use libc::{STDERR_FILENO, STDIN_FILENO, STDOUT_FILENO};
 
 const MOST: usize = 32773;

@@ -189,7 +189,7 @@ s ∈ ss = Memᴰ s ss
 -- what is in the levels is in one of them
 pub levels_in_level : (k : ℕ) (l r s : Slope) → s ∈ levels k l r → (i : ℕ) × (i < k) × s ∈ level i l r
 unfolding levels level
-levels_in_level zero l r s m = absurd (Memᴰ.not_nil m)
+levels_in_level zero l r s m = absurd (Memᴰ.not-nil m)
 levels_in_level (suc k) l r s m =
     let mid = l ⊕ r in
     ⊎_elim

@@ -1,6 +1,7 @@
 // Lengthen and shorten (document 01, "Layout, lengthen, shorten"; held edges: document 02, request 108).
 //
 // Both are one move with a sign: `longer` says which.
+#![tactic(auto)]
 ghost use Rattle.std.specs.Prelude.{true, false, ◌≡◌, ◌+◌, ◌^◌, ◌≤◌, ◌<◌, length};
 ghost use Rattle.table.specs.Acceptance.{validity};
 ghost use Rattle.table.specs.Numbering.{NumberedTree};

@@ -3,6 +3,7 @@
 // All calls share one work list of 4n numbers. While a table is tested, its first 2n numbers hold the first slot of
 // each node's children (at 0 to n), then how many nodes stand in each slot, and then marks (from n + 1 on). `number`
 // leaves the post numbers at 0, the first numbers of the subtrees at 2n and the post-order itself at 3n.
+#![tactic(auto)]
 ghost use Rattle.std.specs.Prelude.{true, [], ◌∷◌, ◌≡◌, ◌+◌, ◌*◌, ◌^◌, ◌≤◌, ◌<◌, length, get_or, set};
 ghost use Rattle.laws.specs.Regions.{Only};
 ghost use Rattle.laws.specs.Search.{least};
@@ -16,7 +17,7 @@ ghost use Rattle.table.specs.Numbering.{Numbered, NumberedTree, Numbers};
 
 // What a call accepts: the most nodes and the largest place. `many` and `far` are refusal numbers: of more nodes, and
 // of a place beyond.
-#[derive(Drop)]
+#[derive(Clone, Copy)]
 pub struct Limits {
     pub nodes: u32,
     pub many: u32,
@@ -25,14 +26,14 @@ pub struct Limits {
 }
 
 // Whether a table is one: accepted, or a refusal's number and node.
-#[derive(Drop)]
+#[derive(Clone, Copy)]
 pub enum Validity {
     Accepted,
     Refused(u32, u32),
 }
 
 // What a call that fills lists answers: the number of nodes, or a refusal's number and node.
-#[derive(Drop)]
+#[derive(Clone, Copy)]
 pub enum Counted {
     Nodes(u32),
     Refused(u32, u32),

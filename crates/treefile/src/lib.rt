@@ -1,4 +1,5 @@
 // Tree files.
+#![tactic(auto)]
 ghost use Rattle.std.specs.Prelude.{◌≡◌, ◌+◌, ◌*◌, ◌^◌, ◌≤◌, ◌<◌, length, get_or};
 ghost use Rattle.laws.specs.Regions.{Only};
 ghost use Rattle.table.specs.Table.{large};
@@ -9,7 +10,7 @@ ghost use Rattle.treefile.specs.TreeFile.{word_at, words, stated_or_zero, Read, 
 use table::{Counted, Limits, Validity};
 
 // What the writer answers: the number of bytes, or a refusal with its number and node.
-#[derive(Drop)]
+#[derive(Clone, Copy)]
 pub enum Saved {
     Bytes(usize),
     Unsaved(u32, u32),

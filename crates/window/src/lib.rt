@@ -1,16 +1,17 @@
 // Where a place stands in a window of the cabinet's screen (document 02, request 103).
+#![tactic(auto)]
 ghost use Rattle.std.specs.Prelude.{◌≡◌, ◌≤◌};
 ghost use Rattle.window.specs.Window.{greatest, within, Exact, Says};
 
 // A position in a window, in sides of it: from 0 up to, but not, 1.
-#[derive(Drop)]
+#[derive(Clone, Copy)]
 pub struct Point {
     pub across: f64,
     pub up: f64,
 }
 
 // What a window shows of a lot: its position, nothing, or a refusal's number and lot.
-#[derive(Drop)]
+#[derive(Clone, Copy)]
 pub enum View {
     Shown(Point),
     Outside,

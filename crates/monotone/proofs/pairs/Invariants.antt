@@ -1,0 +1,23 @@
+-- Every pair before the loops' place has a direction; the first cone that is 2 is that of the first pair that has none.
+use mathlib.Core.Path.{refl, sym, subst⁻¹, ◌∙◌}
+use Prim.Native.Nat.{◌-◌, ◌<◌}
+use native.Mathlib.Omega.{arith}
+use lib.ListN.{length}
+use Rattle.laws.specs.Regions.{Only, only_refl, only_trans}
+use Rattle.monotone.specs.Parts.{Found}
+use Rattle.monotone.proofs.Spreading.{edges_stay, ordered_kept}
+use Rattle.monotone.proofs.Deciding.{OverRows, OverRow, passed_none, clear_more, passed_row, first_turn}
+use Rattle.monotone.proofs.Deciding.{all_passed}
+use Rattle.monotone.proofs.pairs.Given as goal
+
+abbrev pub invariant-loop-v : goal.invariant-loop-v
+invariant-loop-v l = OverRow (length l.parent) l.u l.v l.work l.answer
+
+abbrev pub decreases-loop-v : goal.decreases-loop-v
+decreases-loop-v l = length l.parent - l.v
+
+abbrev pub invariant-pairs : goal.invariant-pairs
+invariant-pairs l = OverRows l.parent l.initial.work l.u l.work l.answer
+
+abbrev pub decreases-pairs : goal.decreases-pairs
+decreases-pairs l = length l.parent - l.u

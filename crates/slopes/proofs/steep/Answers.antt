@@ -1,0 +1,7 @@
+-- Across 1, up j.
+use mathlib.Core.Path.{refl}
+use borrow.Author.Rules.{rules}
+use Rattle.slopes.proofs.steep.Goals as goal
+
+pub returns : goal.returns
+returns c = refl

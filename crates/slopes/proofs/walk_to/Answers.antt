@@ -1,0 +1,16 @@
+-- The descent finds the slope, and its level is k less the zeros that end the position, which are fewer than k.
+use borrow.Author.Rules.{rules}
+use Prim.Native.Nat.{◌<◌}
+use native.Mathlib.Omega.{arith}
+use lib.Count.{count_trailing_zeros}
+use Rattle.slopes.specs.Descent.{zeros_below, position_level}
+use Rattle.slopes.proofs.walk_to.Goals as goal
+
+pub returns : goal.returns
+returns c = (c.descend.ensures, omega (arith, (zeros_below 32 _ _ c.requires.0 c.requires.1 c.requires.2), position_level 32 _ _ c.requires.0 c.requires.1 c.requires.2))
+
+pub overflow_sub-result : goal.overflow_sub-result
+overflow_sub-result c = omega (arith, (zeros_below 32 _ _ c.requires.0 c.requires.1 c.requires.2))
+
+pub overflow_sub-result-2 : goal.overflow_sub-result-2
+overflow_sub-result-2 c = omega (arith, (zeros_below 32 _ _ c.requires.0 c.requires.1 c.requires.2))

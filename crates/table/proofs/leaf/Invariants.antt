@@ -1,0 +1,10 @@
+-- The subtrees on the way down start with the same node, and shrink.
+use Rattle.table.specs.Postorder.{size}
+use Rattle.table.proofs.Walks.{Descending}
+use Rattle.table.proofs.leaf.Given as goal
+
+abbrev pub invariant-loop-s : goal.invariant-loop-s
+invariant-loop-s l = Descending l.parent l.rank l.work l.v l.u l.s
+
+abbrev pub decreases-loop-s : goal.decreases-loop-s
+decreases-loop-s l = size l.parent l.rank l.u

@@ -1,0 +1,7 @@
+-- One store.
+use Rattle.text.specs.TextLaws.{appended_byte}
+use borrow.Author.Rules.{rules}
+use Rattle.text.proofs.put_byte.Goals as goal
+
+pub returns : goal.returns
+returns c = appended_byte _ _ _ c.requires

@@ -1,0 +1,9 @@
+-- The word, then the number.
+use Rattle.text.specs.TextLaws.{appended_on}
+use Rattle.text.specs.Parts.{title_of}
+use borrow.Author.Rules.{rules}
+use Rattle.text.proofs.put_title.Goals as goal
+
+pub returns : goal.returns
+unfolding title_of
+returns c = appended_on c.put_word-first.ensures c.put_field.ensures.0

@@ -1,0 +1,14 @@
+-- The numbers below v are decoded.
+use Prim.Native.Nat.{ℕ, ◌+◌, ◌*◌, ◌-◌}
+use mathlib.Core.Path.{◌∙◌, refl, ap}
+use native.Mathlib.Omega.{arith}
+use lib.ListN.{length, set}
+use Rattle.treefile.specs.TreeFile.{word_at, words}
+use Rattle.laws.specs.Filling.{Filled, filled_start, filled_step, filled_all}
+use Rattle.treefile.proofs.decode.Given as goal
+
+abbrev pub invariant-loop-v : goal.invariant-loop-v
+invariant-loop-v l = Filled (λ k. word_at l.bytes (l.a + 4 * k)) 0 (length l.initial.list) l.initial.list l.list l.v
+
+abbrev pub decreases-loop-v : goal.decreases-loop-v
+decreases-loop-v l = length l.initial.list - l.v

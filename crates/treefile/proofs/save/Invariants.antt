@@ -1,0 +1,12 @@
+-- The first i numbers are copied.
+use Prim.Native.Nat.{◌-◌}
+use native.Mathlib.Omega.{arith}
+use lib.ListN.{length, get_or}
+use Rattle.laws.specs.Filling.{Filled, filled_start, filled_step}
+use Rattle.treefile.proofs.save.Given as goal
+
+abbrev pub invariant-loop-i : goal.invariant-loop-i
+invariant-loop-i l = Filled (λ k. get_or l.list k 0) l.a (length l.list) l.initial.work l.work l.i
+
+abbrev pub decreases-loop-i : goal.decreases-loop-i
+decreases-loop-i l = length l.list - l.i
