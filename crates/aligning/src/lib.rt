@@ -3,7 +3,7 @@
 ghost use Rattle.std.specs.Prelude.{length};
 ghost use Rattle.table.specs.Numbering.{NumberedTree};
 ghost use Rattle.table.specs.Table.{large};
-ghost use Rattle.drawing.specs.Drawing.{lent, sheet_of, sheet};
+ghost use Rattle.drawing.specs.Drawing.{lent, sheet_of, sheet, to_read};
 ghost use Rattle.stretching.specs.CallLaws.{Examined};
 ghost use Rattle.aligning.specs.Aligning.{Says, Aligns};
 
@@ -36,7 +36,8 @@ fn count_to(
     requires { Examined limits parent.now rank.now rule
         (sheet_of (lent times.now x.now y.now) held.now) (length work.now) v
         × NumberedTree parent.now rank.now work.now }
-    ensures { Says limits parent.now rank.now rule (sheet times x y held).entry
+    ensures { Says limits parent.now rank.now rule
+        (sheet (to_read times) (to_read x) (to_read y) (to_read held)).entry
         (length work.now) v column result }
 {
     if get(held, v) == 1 {
@@ -79,7 +80,8 @@ pub fn column_within(
     lot: u32,
     column: u32,
 ) -> Aligned
-    ensures { Aligns limits parent.now rank.now rule (sheet times x y held).entry
+    ensures { Aligns limits parent.now rank.now rule
+        (sheet (to_read times) (to_read x) (to_read y) (to_read held)).entry
         work.old work.new lot column result }
 {
     let verdict = examine(limits, rule, parent, rank, times, x, y, held, work, lot);
@@ -117,7 +119,8 @@ pub fn column(
     lot: u32,
     column: u32,
 ) -> Aligned
-    ensures { Aligns large parent.now rank.now rule (sheet times x y held).entry
+    ensures { Aligns large parent.now rank.now rule
+        (sheet (to_read times) (to_read x) (to_read y) (to_read held)).entry
         work.old work.new lot column result }
 {
     let limits = large_limits();

@@ -64,9 +64,6 @@ lengthen_each L P R rule s work lots counts =
 abbrev pub Arranges : Limits → Lent → Lent → Rule → Both Sheet Sheet → Lent → Lent → Lent → Arranged → Type 0
 Arranges L parent rank rule s work lots counts r =
     Called
-    (lists_fault L parent.entry.now rank.entry.now s.entry (length work.entry.now)
-    lots.entry.now counts.entry.now)
-    work.entry.now work.exit.now
+    (lists_fault L parent.entry rank.entry s.entry (length work.entry) lots.entry counts.entry) work.entry work.exit
     (record { answer = r; left = s.exit }
-    ≡ lengthen_each L parent.entry.now rank.entry.now rule s.entry (length work.entry.now)
-    lots.entry.now counts.entry.now)
+    ≡ lengthen_each L parent.entry rank.entry rule s.entry (length work.entry) lots.entry counts.entry)

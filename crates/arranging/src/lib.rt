@@ -2,7 +2,7 @@
 #![tactic(auto)]
 ghost use Rattle.std.specs.Prelude.{◌≡◌, length};
 ghost use Rattle.table.specs.Table.{large};
-ghost use Rattle.drawing.specs.Drawing.{lent, sheet_of, sheet};
+ghost use Rattle.drawing.specs.Drawing.{lent, sheet_of, sheet, to_read, to_write};
 ghost use Rattle.drawing.specs.Parts.{FramesFit};
 ghost use Rattle.stretching.specs.Parts.{Opened};
 ghost use Rattle.arranging.specs.Arranging.{at_place, in_turn, Arranges};
@@ -45,7 +45,8 @@ fn inspect_lists(
     lots: &[u32],
     counts: &[u32],
 ) -> Validity
-    ensures { Listed limits parent.now rank.now rule (sheet times x y held).entry
+    ensures { Listed limits parent.now rank.now rule
+        (sheet (to_read times) (to_read x) (to_read y) (to_read held)).entry
         work.old lots.now counts.now work.new result }
 {
     if lots.len() == counts.len() {
@@ -77,9 +78,10 @@ fn lengthen_in_turn(
     requires { FramesFit limits × Opened limits parent.now rank.now rule
         (sheet_of (lent times.old x.old y.old) held.now) work.now
         × (length counts.now ≡ length lots.now) }
-    ensures { record { answer = result; left = (sheet times x y held).exit }
+    ensures { record { answer = result; left =
+        (sheet (to_write times) (to_write x) (to_write y) (to_read held)).exit }
         ≡ in_turn limits parent.now rank.now rule (length work.now)
-        (sheet times x y held).entry 1 lots.now counts.now }
+        (sheet (to_write times) (to_write x) (to_write y) (to_read held)).entry 1 lots.now counts.now }
 {
     let m = lots.len();
     let mut i = 0;
@@ -115,7 +117,9 @@ pub fn lengthen_each_within(
     counts: &[u32],
 ) -> Arranged
     requires { FramesFit limits }
-    ensures { Arranges limits parent rank rule (sheet times x y held) work lots counts result }
+    ensures { Arranges limits (to_read parent) (to_read rank) rule
+        (sheet (to_write times) (to_write x) (to_write y) (to_read held))
+        (to_write work) (to_read lots) (to_read counts) result }
 {
     let valid = inspect_lists(
         limits, rule, parent, rank, times, x, y, held, work, lots, counts,
@@ -145,7 +149,9 @@ pub fn lengthen_each(
     lots: &[u32],
     counts: &[u32],
 ) -> Arranged
-    ensures { Arranges large parent rank rule (sheet times x y held) work lots counts result }
+    ensures { Arranges large (to_read parent) (to_read rank) rule
+        (sheet (to_write times) (to_write x) (to_write y) (to_read held))
+        (to_write work) (to_read lots) (to_read counts) result }
 {
     let limits = large_limits();
     lengthen_each_within(

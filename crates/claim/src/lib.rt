@@ -3,7 +3,7 @@
 #![tactic(auto)]
 ghost use Rattle.std.specs.Prelude.{◌≡◌, length};
 ghost use Rattle.table.specs.Table.{large};
-ghost use Rattle.drawing.specs.Drawing.{sheet};
+ghost use Rattle.drawing.specs.Drawing.{sheet, to_write};
 ghost use Rattle.claim.specs.Claim.{make, run};
 ghost use Rattle.claim.specs.Replay.{call_of, calls_to, Replayed};
 
@@ -25,8 +25,9 @@ fn make_call(
     lot: u32,
     count: u32,
 ) -> Framed
-    ensures { (sheet times x y held).exit
-        ≡ (make large parent.now rank.now rule (sheet times x y held).entry
+    ensures { (sheet (to_write times) (to_write x) (to_write y) (to_write held)).exit
+        ≡ (make large parent.now rank.now rule
+        (sheet (to_write times) (to_write x) (to_write y) (to_write held)).entry
         (call_of kind lot count (length work.old))).left }
 {
     if kind == 0 {
@@ -53,8 +54,8 @@ fn make_calls(
     counts: &[u32],
 )
     requires { (length lots.now ≡ length kinds.now) × (length counts.now ≡ length kinds.now) }
-    ensures { (sheet times x y held).exit
-        ≡ run large parent.now rank.now rule (sheet times x y held).entry
+    ensures { (sheet (to_write times) (to_write x) (to_write y) (to_write held)).exit
+        ≡ run large parent.now rank.now rule (sheet (to_write times) (to_write x) (to_write y) (to_write held)).entry
         (calls_to kinds.now lots.now counts.now (length work.old)
         (length kinds.now)) }
 {
@@ -87,9 +88,10 @@ pub fn replay(
     counts: &[u32],
 ) -> Framed
     requires { (length lots.now ≡ length kinds.now) × (length counts.now ≡ length kinds.now) }
-    ensures { Replayed large parent.now rank.now rule (sheet times x y held).entry
+    ensures { Replayed large parent.now rank.now rule
+        (sheet (to_write times) (to_write x) (to_write y) (to_write held)).entry
         (length work.old) kinds.now lots.now counts.now
-        (sheet times x y held).exit result }
+        (sheet (to_write times) (to_write x) (to_write y) (to_write held)).exit result }
 {
     match drawing::layout(rule, parent, rank, times, x, y, held, work) {
         Framed::Refused(number, lot) => Framed::Refused(number, lot),

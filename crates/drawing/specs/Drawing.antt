@@ -28,7 +28,7 @@
 --   Does L .. call r          == that contract of lent lists, for a call whose definition is `call`
 use Rattle.std.specs.Prelude.{Bool, true, false, cond, not, ◌&&◌, List, [], ◌∷◌, ◌≡◌, ℕ, zero, suc, ◌+◌, ◌*◌, max, leb, eqb, length, get_or, replicate}
 use Rattle.std.proofs.Math.Option.{Option}
-use Rattle.std.specs.Borrow.{Bor}
+use Rattle.std.specs.Borrow.{Bor, MutBor}
 use denote.Triple.Both.{Both}
 use Rattle.laws.specs.Search.{tabulate, Refusal, refuse_least, ◌or_else◌, Outcome, settle}
 use Rattle.table.specs.declared.Limits.{Limits}
@@ -131,25 +131,32 @@ abbrev pub OnSheet : Limits → List ℕ → List ℕ → Sheet → List ℕ →
 OnSheet L P R s W t X r o =
     Called (shape_fault L P R (lengths_fit P s) (length W)) W X (record { answer = r; left = t } ≡ o)
 
--- a list lent to a call, and the drawing and the sheet that such lists hold: each at entry and at exit
+-- a list lent to a call, to read or to write, and the drawing and the sheet that such lists hold: each at entry and at
+-- exit
 abbrev pub Lent : Type 0
-Lent = Both (Bor (List ℕ)) (Bor (List ℕ))
+Lent = Both (List ℕ) (List ℕ)
+
+abbrev pub to_read : Both (Bor (List ℕ)) (Bor (List ℕ)) → Lent
+to_read list = record { entry = list.entry.now; exit = list.exit.now }
+
+abbrev pub to_write : Both (MutBor (List ℕ)) (MutBor (List ℕ)) → Lent
+to_write list = record { entry = list.entry.now; exit = list.exit.now }
 
 abbrev pub drawing : Lent → Lent → Lent → Both Drawing Drawing
 drawing times x y = record {
-  entry = lent times.entry.now x.entry.now y.entry.now;
-  exit = lent times.exit.now x.exit.now y.exit.now;
+  entry = lent times.entry x.entry y.entry;
+  exit = lent times.exit x.exit y.exit;
 }
 
 abbrev pub sheet : Lent → Lent → Lent → Lent → Both Sheet Sheet
 sheet times x y held = record {
-  entry = sheet_of (drawing times x y).entry held.entry.now;
-  exit = sheet_of (drawing times x y).exit held.exit.now;
+  entry = sheet_of (drawing times x y).entry held.entry;
+  exit = sheet_of (drawing times x y).exit held.exit;
 }
 
 -- the answer r and the lists at exit are what `call` says of the table, the sheet s and the length of the work list
 abbrev pub Does : Limits → Lent → Lent → Both Sheet Sheet → Lent
     → (List ℕ → List ℕ → Sheet → ℕ → Outcome Framed Sheet) → Framed → Type 0
 Does L parent rank s work call r =
-    OnSheet L parent.entry.now rank.entry.now s.entry work.entry.now s.exit work.exit.now r
-    (call parent.entry.now rank.entry.now s.entry (length work.entry.now))
+    OnSheet L parent.entry rank.entry s.entry work.entry s.exit work.exit r
+    (call parent.entry rank.entry s.entry (length work.entry))

@@ -2,7 +2,7 @@
 #![tactic(auto)]
 ghost use Rattle.std.specs.Prelude.{◌≡◌, ◌<◌, length, set};
 ghost use Rattle.table.specs.Table.{large};
-ghost use Rattle.drawing.specs.Drawing.{sheet, Does};
+ghost use Rattle.drawing.specs.Drawing.{sheet, Does, to_read, to_write};
 ghost use Rattle.drawing.specs.Parts.{FramesFit};
 ghost use Rattle.holding.specs.Holding.{entry, hold};
 
@@ -38,7 +38,8 @@ pub fn hold_within(
     on: bool,
 ) -> Framed
     requires { FramesFit limits }
-    ensures { Does limits parent rank (sheet times x y held) work
+    ensures { Does limits (to_read parent) (to_read rank)
+        (sheet (to_read times) (to_read x) (to_read y) (to_write held)) (to_write work)
         (λ P R s m. hold limits P R rule s m lot on) result }
 {
     let verdict = examine(limits, rule, parent, rank, times, x, y, held, work, lot);
@@ -65,7 +66,8 @@ pub fn hold(
     lot: u32,
     on: bool,
 ) -> Framed
-    ensures { Does large parent rank (sheet times x y held) work
+    ensures { Does large (to_read parent) (to_read rank)
+        (sheet (to_read times) (to_read x) (to_read y) (to_write held)) (to_write work)
         (λ P R s m. hold large P R rule s m lot on) result }
 {
     let limits = large_limits();

@@ -3,7 +3,7 @@
 ghost use Rattle.std.specs.Prelude.{true, ◌≡◌, ◌+◌, ◌*◌, ◌^◌, ◌≤◌, ◌<◌, min, length};
 ghost use Rattle.laws.specs.Search.{least};
 ghost use Rattle.slopes.specs.Slopes.{edge};
-ghost use Rattle.drawing.specs.Drawing.{lent, node_fits, drawing, sheet};
+ghost use Rattle.drawing.specs.Drawing.{lent, node_fits, drawing, sheet, to_read};
 ghost use Rattle.drawing.specs.Parts.{Sized};
 ghost use Rattle.inspecting.specs.Parts.{placed_from, root_fits, misfit, AllFit, misheld, Inspecting};
 
@@ -26,7 +26,7 @@ fn placed(limit: usize, places: &[u32], p: usize, v: usize, step: usize) -> bool
 // Whether the root has times 1 and place (0, 0).
 fn root_fits(times: &[u32], x: &[u32], y: &[u32]) -> bool
     requires { (0 < length times.now) × (0 < length x.now) × (0 < length y.now) }
-    ensures { result ≡ root_fits (drawing times x y).entry }
+    ensures { result ≡ root_fits (drawing (to_read times) (to_read x) (to_read y)).entry }
 {
     if get(times, 0) != 1 {
         return false;
@@ -60,7 +60,8 @@ fn node_fits(
 ) -> bool
     requires { Sized parent.now rank.now (lent times.now x.now y.now) work.now
         × (0 < v) × (v < length parent.now) × (slope ≡ edge parent.now rank.now rule v) }
-    ensures { result ≡ node_fits limit parent.now rank.now rule (drawing times x y).entry v }
+    ensures { result ≡ node_fits limit parent.now rank.now rule
+        (drawing (to_read times) (to_read x) (to_read y)).entry v }
 {
     let t = get(times, v);
     if t < 1 {
@@ -88,7 +89,7 @@ fn misfit_by_node(
     requires { Sized parent.now rank.now (lent times.now x.now y.now) work.now
         × (root_fits (lent times.now x.now y.now) ≡ true) }
     ensures { result ≡ least (misfit limit parent.now rank.now rule
-        (drawing times x y).entry) (length parent.now) }
+        (drawing (to_read times) (to_read x) (to_read y)).entry) (length parent.now) }
 {
     let n = parent.len();
     let mut v = 1;
@@ -116,7 +117,7 @@ fn all_fit(
 ) -> bool
     requires { Sized parent.now rank.now (lent times.now x.now y.now) work.now
         × (root_fits (lent times.now x.now y.now) ≡ true) }
-    ensures { AllFit limit parent.now rank.now rule (drawing times x y).entry result }
+    ensures { AllFit limit parent.now rank.now rule (drawing (to_read times) (to_read x) (to_read y)).entry result }
 {
     let n = parent.len();
     let mut here = bordered_at(rule, n, n - 1);
@@ -150,7 +151,7 @@ fn first_misfit(
 ) -> usize
     requires { Sized parent.now rank.now (lent times.now x.now y.now) work.now }
     ensures { result ≡ least (misfit limit parent.now rank.now rule
-        (drawing times x y).entry) (length parent.now) }
+        (drawing (to_read times) (to_read x) (to_read y)).entry) (length parent.now) }
 {
     let root = root_fits(times, x, y);
     if !root {
@@ -207,7 +208,7 @@ pub fn inspect(
     work: &mut [u32],
 ) -> Validity
     ensures { Inspecting limits parent.now rank.now rule
-        (sheet times x y held).entry work.old work.new result }
+        (sheet (to_read times) (to_read x) (to_read y) (to_read held)).entry work.old work.new result }
 {
     let n = parent.len();
     let place = limits.place as usize;

@@ -22,7 +22,7 @@ rule_of false = Steep
 
 -- what lent lists hold, s, and the work list are at exit what they were at entry
 abbrev pub Unchanged : {A : Type 0} → Both A A → Lent → Type 0
-Unchanged s work = (s.exit ≡ s.entry) × (work.exit.now ≡ work.entry.now)
+Unchanged s work = (s.exit ≡ s.entry) × (work.exit ≡ work.entry)
 
 pub record Answered {A X : Type 0} (Contract : A → Type 0) (reply : A → X) (s : X) : Type 0 where
   pub answer : A

@@ -5,7 +5,7 @@
 ghost use Rattle.std.specs.Prelude.{◌≡◌, length};
 ghost use Rattle.table.specs.Table.{large, small, checked};
 ghost use Rattle.numbers.specs.PostNumbers.{spans, Spanned};
-ghost use Rattle.drawing.specs.Drawing.{layout, sheet, Does};
+ghost use Rattle.drawing.specs.Drawing.{layout, sheet, Does, to_read, to_write};
 ghost use Rattle.stretching.specs.Stretching.{lengthen, shorten};
 ghost use Rattle.holding.specs.Holding as holding;
 ghost use Rattle.arranging.specs.Arranging.{Arranges};
@@ -73,8 +73,8 @@ pub extern "C" fn lineage_tallest(
     reply: &mut [i64],
 ) -> bool
     ensures { Exported 3
-        (Fills large n (lists parent rank))
-        framed_reply ((lists parent rank).exit ≡ (lists parent rank).entry)
+        (Fills large n (lists (to_write parent) (to_write rank)))
+        framed_reply ((lists (to_write parent) (to_write rank)).exit ≡ (lists (to_write parent) (to_write rank)).entry)
         reply.old reply.new result }
 {
     if reply.len() != 3 {
@@ -99,8 +99,10 @@ pub extern "C" fn lineage_layout(
     reply: &mut [i64],
 ) -> bool
     ensures { Exported 3
-        (Does large parent rank (sheet times x y held) work (λ P R s m. layout large P R (rule_of balanced) s m))
-        framed_reply (Unchanged (sheet times x y held) work)
+        (Does large (to_read parent) (to_read rank)
+        (sheet (to_write times) (to_write x) (to_write y) (to_write held))
+        (to_write work) (λ P R s m. layout large P R (rule_of balanced) s m))
+        framed_reply (Unchanged (sheet (to_write times) (to_write x) (to_write y) (to_write held)) (to_write work))
         reply.old reply.new result }
 {
     if reply.len() != 3 {
@@ -127,9 +129,10 @@ pub extern "C" fn lineage_lengthen(
     reply: &mut [i64],
 ) -> bool
     ensures { Exported 3
-        (Does large parent rank (sheet times x y held) work
+        (Does large (to_read parent) (to_read rank)
+        (sheet (to_write times) (to_write x) (to_write y) (to_read held)) (to_write work)
         (λ P R s m. lengthen large P R (rule_of balanced) s m lot count))
-        framed_reply (Unchanged (sheet times x y held) work)
+        framed_reply (Unchanged (sheet (to_write times) (to_write x) (to_write y) (to_read held)) (to_write work))
         reply.old reply.new result }
 {
     if reply.len() != 3 {
@@ -168,8 +171,10 @@ pub extern "C" fn lineage_lengthen_each(
     reply: &mut [i64],
 ) -> bool
     ensures { Exported 4
-        (Arranges large parent rank (rule_of balanced) (sheet times x y held) work lots counts)
-        arranged_reply (Unchanged (sheet times x y held) work)
+        (Arranges large (to_read parent) (to_read rank) (rule_of balanced)
+        (sheet (to_write times) (to_write x) (to_write y) (to_read held))
+        (to_write work) (to_read lots) (to_read counts))
+        arranged_reply (Unchanged (sheet (to_write times) (to_write x) (to_write y) (to_read held)) (to_write work))
         reply.old reply.new result }
 {
     if reply.len() != 4 {
@@ -207,9 +212,10 @@ pub extern "C" fn lineage_shorten(
     reply: &mut [i64],
 ) -> bool
     ensures { Exported 3
-        (Does large parent rank (sheet times x y held) work
+        (Does large (to_read parent) (to_read rank)
+        (sheet (to_write times) (to_write x) (to_write y) (to_read held)) (to_write work)
         (λ P R s m. shorten large P R (rule_of balanced) s m lot count))
-        framed_reply (Unchanged (sheet times x y held) work)
+        framed_reply (Unchanged (sheet (to_write times) (to_write x) (to_write y) (to_read held)) (to_write work))
         reply.old reply.new result }
 {
     if reply.len() != 3 {
@@ -247,9 +253,10 @@ pub extern "C" fn lineage_hold(
     reply: &mut [i64],
 ) -> bool
     ensures { Exported 3
-        (Does large parent rank (sheet times x y held) work
+        (Does large (to_read parent) (to_read rank)
+        (sheet (to_read times) (to_read x) (to_read y) (to_write held)) (to_write work)
         (λ P R s m. holding.hold large P R (rule_of balanced) s m lot hold))
-        framed_reply (Unchanged (sheet times x y held) work)
+        framed_reply (Unchanged (sheet (to_read times) (to_read x) (to_read y) (to_write held)) (to_write work))
         reply.old reply.new result }
 {
     if reply.len() != 3 {
@@ -288,7 +295,8 @@ pub extern "C" fn lineage_column(
     reply: &mut [i64],
 ) -> bool
     ensures { Exported 3
-        (Aligns large parent.now rank.now (rule_of balanced) (sheet times x y held).entry
+        (Aligns large parent.now rank.now (rule_of balanced)
+        (sheet (to_read times) (to_read x) (to_read y) (to_read held)).entry
         work.old work.new lot column)
         aligned_reply (work.new ≡ work.old)
         reply.old reply.new result }
@@ -326,8 +334,10 @@ pub extern "C" fn lineage_small_layout(
     reply: &mut [i64],
 ) -> bool
     ensures { Exported 3
-        (Does small parent rank (sheet times x y held) work (λ P R s m. layout small P R (rule_of balanced) s m))
-        framed_reply (Unchanged (sheet times x y held) work)
+        (Does small (to_read parent) (to_read rank)
+        (sheet (to_write times) (to_write x) (to_write y) (to_write held))
+        (to_write work) (λ P R s m. layout small P R (rule_of balanced) s m))
+        framed_reply (Unchanged (sheet (to_write times) (to_write x) (to_write y) (to_write held)) (to_write work))
         reply.old reply.new result }
 {
     if reply.len() != 3 {
@@ -354,9 +364,10 @@ pub extern "C" fn lineage_small_lengthen(
     reply: &mut [i64],
 ) -> bool
     ensures { Exported 3
-        (Does small parent rank (sheet times x y held) work
+        (Does small (to_read parent) (to_read rank)
+        (sheet (to_write times) (to_write x) (to_write y) (to_read held)) (to_write work)
         (λ P R s m. lengthen small P R (rule_of balanced) s m lot count))
-        framed_reply (Unchanged (sheet times x y held) work)
+        framed_reply (Unchanged (sheet (to_write times) (to_write x) (to_write y) (to_read held)) (to_write work))
         reply.old reply.new result }
 {
     if reply.len() != 3 {
@@ -394,9 +405,10 @@ pub extern "C" fn lineage_small_shorten(
     reply: &mut [i64],
 ) -> bool
     ensures { Exported 3
-        (Does small parent rank (sheet times x y held) work
+        (Does small (to_read parent) (to_read rank)
+        (sheet (to_write times) (to_write x) (to_write y) (to_read held)) (to_write work)
         (λ P R s m. shorten small P R (rule_of balanced) s m lot count))
-        framed_reply (Unchanged (sheet times x y held) work)
+        framed_reply (Unchanged (sheet (to_write times) (to_write x) (to_write y) (to_read held)) (to_write work))
         reply.old reply.new result }
 {
     if reply.len() != 3 {

@@ -2,7 +2,7 @@
 // at limits of their own.
 #![tactic(auto)]
 ghost use Rattle.table.specs.Table.{small};
-ghost use Rattle.drawing.specs.Drawing.{layout, sheet, Does};
+ghost use Rattle.drawing.specs.Drawing.{layout, sheet, Does, to_read, to_write};
 ghost use Rattle.stretching.specs.Stretching.{lengthen, shorten};
 
 use drawing::{Framed, layout_within};
@@ -21,7 +21,9 @@ pub fn layout_small(
     held: &mut [u32],
     work: &mut [u32],
 ) -> Framed
-    ensures { Does small parent rank (sheet times x y held) work (λ P R s m. layout small P R rule s m) result }
+    ensures { Does small (to_read parent) (to_read rank)
+        (sheet (to_write times) (to_write x) (to_write y) (to_write held))
+        (to_write work) (λ P R s m. layout small P R rule s m) result }
 {
     let cap = small_limits();
     layout_within(cap, rule, parent, rank, times, x, y, held, work)
@@ -40,7 +42,8 @@ pub fn lengthen_small(
     lot: u32,
     count: u32,
 ) -> Framed
-    ensures { Does small parent rank (sheet times x y held) work
+    ensures { Does small (to_read parent) (to_read rank)
+        (sheet (to_write times) (to_write x) (to_write y) (to_read held)) (to_write work)
         (λ P R s m. lengthen small P R rule s m lot count) result }
 {
     let cap = small_limits();
@@ -60,7 +63,8 @@ pub fn shorten_small(
     lot: u32,
     count: u32,
 ) -> Framed
-    ensures { Does small parent rank (sheet times x y held) work
+    ensures { Does small (to_read parent) (to_read rank)
+        (sheet (to_write times) (to_write x) (to_write y) (to_read held)) (to_write work)
         (λ P R s m. shorten small P R rule s m lot count) result }
 {
     let cap = small_limits();

@@ -7,7 +7,7 @@ ghost use Rattle.table.specs.Acceptance.{validity};
 ghost use Rattle.table.specs.Numbering.{NumberedTree};
 ghost use Rattle.table.specs.Table.{large};
 ghost use Rattle.slopes.specs.Slopes.{edge};
-ghost use Rattle.drawing.specs.Drawing.{lent, sheet_of, drawing, sheet, Does};
+ghost use Rattle.drawing.specs.Drawing.{lent, sheet_of, drawing, sheet, Does, to_read, to_write};
 ghost use Rattle.drawing.specs.DrawingLaws.{Drawn};
 ghost use Rattle.drawing.specs.Parts.{FramesFit};
 ghost use Rattle.stretching.specs.Stretching.{moved, stretched, beyond, edge_fault, lengthen, shorten};
@@ -71,7 +71,7 @@ pub fn examine(
     lot: u32,
 ) -> Validity
     ensures { Examining limits parent.now rank.now rule
-        (sheet times x y held).entry work.old lot work.new result }
+        (sheet (to_read times) (to_read x) (to_read y) (to_read held)).entry work.old lot work.new result }
 {
     let valid = inspect(limits, rule, parent, rank, times, x, y, held, work);
     match valid {
@@ -94,7 +94,7 @@ fn examine_free(
     lot: u32,
 ) -> Validity
     ensures { Unheld limits parent.now rank.now rule
-        (sheet times x y held).entry work.old lot work.new result }
+        (sheet (to_read times) (to_read x) (to_read y) (to_read held)).entry work.old lot work.new result }
 {
     let valid = inspect(limits, rule, parent, rank, times, x, y, held, work);
     match valid {
@@ -173,7 +173,7 @@ pub fn too_far(
         × Drawn limit parent.now rank.now rule (lent times.now x.now y.now)
         × (v < length parent.now) × (slope ≡ edge parent.now rank.now rule v) }
     ensures { result ≡ beyond limit (length parent.now)
-        (longer parent.now rank.now rule (drawing times x y).entry v count) }
+        (longer parent.now rank.now rule (drawing (to_read times) (to_read x) (to_read y)).entry v count) }
 {
     let c = count as usize;
     let wide = passes(limit, parent, rank, work, x, v, product(c, slope.across));
@@ -199,8 +199,9 @@ fn stretch(
 )
     requires { Stretchable parent.now rank.now rule (lent times.old x.old y.old) work.now
         v count longer × (slope ≡ edge parent.now rank.now rule v) }
-    ensures { (drawing times x y).exit
-        ≡ stretched (by longer) parent.now rank.now rule (drawing times x y).entry v count }
+    ensures { (drawing (to_write times) (to_write x) (to_write y)).exit
+        ≡ stretched (by longer) parent.now rank.now rule
+        (drawing (to_write times) (to_write x) (to_write y)).entry v count }
 {
     let c = count as usize;
     move_subtree(parent, rank, work, x, v, product(c, slope.across), longer);
@@ -225,8 +226,9 @@ pub fn lengthen_edge(
 ) -> Validity
     requires { FramesFit limits × Opened limits parent.now rank.now rule
         (sheet_of (lent times.old x.old y.old) held.now) work.now }
-    ensures { framing result (sheet times x y held).exit
-        ≡ lengthen limits parent.now rank.now rule (sheet times x y held).entry
+    ensures { framing result (sheet (to_write times) (to_write x) (to_write y) (to_read held)).exit
+        ≡ lengthen limits parent.now rank.now rule
+        (sheet (to_write times) (to_write x) (to_write y) (to_read held)).entry
         (length work.now) lot count }
 {
     let place = limits.place as usize;
@@ -263,7 +265,8 @@ pub fn lengthen_within(
     count: u32,
 ) -> Framed
     requires { FramesFit limits }
-    ensures { Does limits parent rank (sheet times x y held) work
+    ensures { Does limits (to_read parent) (to_read rank)
+        (sheet (to_write times) (to_write x) (to_write y) (to_read held)) (to_write work)
         (λ P R s m. lengthen limits P R rule s m lot count) result }
 {
     let valid = inspect(limits, rule, parent, rank, times, x, y, held, work);
@@ -296,7 +299,8 @@ pub fn shorten_within(
     count: u32,
 ) -> Framed
     requires { FramesFit limits }
-    ensures { Does limits parent rank (sheet times x y held) work
+    ensures { Does limits (to_read parent) (to_read rank)
+        (sheet (to_write times) (to_write x) (to_write y) (to_read held)) (to_write work)
         (λ P R s m. shorten limits P R rule s m lot count) result }
 {
     let verdict = examine_free(limits, rule, parent, rank, times, x, y, held, work, lot);
@@ -330,7 +334,8 @@ pub fn lengthen(
     lot: u32,
     count: u32,
 ) -> Framed
-    ensures { Does large parent rank (sheet times x y held) work
+    ensures { Does large (to_read parent) (to_read rank)
+        (sheet (to_write times) (to_write x) (to_write y) (to_read held)) (to_write work)
         (λ P R s m. lengthen large P R rule s m lot count) result }
 {
     let limits = large_limits();
@@ -353,7 +358,8 @@ pub fn shorten(
     lot: u32,
     count: u32,
 ) -> Framed
-    ensures { Does large parent rank (sheet times x y held) work
+    ensures { Does large (to_read parent) (to_read rank)
+        (sheet (to_write times) (to_write x) (to_write y) (to_read held)) (to_write work)
         (λ P R s m. shorten large P R rule s m lot count) result }
 {
     let limits = large_limits();

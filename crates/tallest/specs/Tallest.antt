@@ -28,8 +28,8 @@ table_of parents ranks = record { parents = parents; ranks = ranks }
 
 abbrev pub lists : Lent → Lent → Both Table Table
 lists parent rank = record {
-  entry = table_of parent.entry.now rank.entry.now;
-  exit = table_of parent.exit.now rank.exit.now;
+  entry = table_of parent.entry rank.entry;
+  exit = table_of parent.exit rank.exit;
 }
 
 -- the root's parent is 0, which 0 - 1 is here; a node that is its parent's only child has rank 0

@@ -3,6 +3,7 @@
 ghost use Rattle.std.specs.Prelude.{◌≡◌, ◌^◌, ◌<◌, length};
 ghost use Rattle.table.specs.Table.{large};
 ghost use Rattle.tallest.specs.Tallest.{lists, chain_of, Fills};
+ghost use Rattle.drawing.specs.Drawing.{to_write};
 
 use drawing::Framed;
 use table::{both_long, clear, large_limits, put};
@@ -33,7 +34,7 @@ fn rank_each(rank: &mut [u32])
 // v - 1, and returns that sheet's frame; refuses an n of 0 or above 65,536 and lists that are not n long, and then
 // leaves them as they were.
 pub fn tallest(n: u32, parent: &mut [u32], rank: &mut [u32]) -> Framed
-    ensures { Fills large n (lists parent rank) result }
+    ensures { Fills large n (lists (to_write parent) (to_write rank)) result }
 {
     let limits = large_limits();
     let most = limits.nodes;

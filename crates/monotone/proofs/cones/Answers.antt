@@ -42,6 +42,6 @@ turn-requires c = ((edges_stay c.loop-j.invariant.only (edges_away c.cones_up.en
 
 pub returns : goal.returns
 returns c =
-    (coned (c c).clear.ensures.1 c.cones_up.ensures
+    (coned c.clear.ensures.1 c.cones_up.ensures
     c.loop-j-test.false
     c.loop-j.invariant c.turn.ensures)

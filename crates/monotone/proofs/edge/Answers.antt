@@ -15,8 +15,8 @@ pub returns : goal.returns
 returns c =
     (
       λ i. record {
-        c.part-across = (small-back c.part-across.result c.part-across.ensures.1 ∙ c.part-across.ensures.0) i;
-        c.part-up = (small-back c.part-up.result c.part-up.ensures.1 ∙ c.part-up.ensures.0) i;
+        across = (small-back c.part-across.result c.part-across.ensures.1 ∙ c.part-across.ensures.0) i;
+        up = (small-back c.part-up.result c.part-up.ensures.1 ∙ c.part-up.ensures.0) i;
       },
       record {
         across_near = back-small c.part-across.result c.part-across.ensures.1;

@@ -54,15 +54,15 @@ returns-then-q-lt0-2 c =
 pub returns-then-dot_product-gt0 : goal.returns-then-dot_product-gt0
 returns-then-dot_product-gt0 c =
     record {
-      after = λ us cone. keep_along (vec c.args.u) cone (≤≥ _ (above_no c.cross_product-p.ensures c.cross_product-p.ok c.if-p-gt0.false)
-    (below_no c.cross_product-p.ensures c.cross_product-p.ok c.if-p-lt0-2.false)) (≤≥ _ (above_no c.cross_product-q.ensures c.cross_product-q.ok c.if-q-gt0.false) (below_no c.cross_product-q.ensures c.cross_product-q.ok c.if-q-lt0-2.false))
+      after = λ us cone. keep_along (vec c.args.u) cone (≤≥ _ (above_no c.cross_product-p.ensures c.cross_product-p.type_inv c.if-p-gt0.false)
+    (below_no c.cross_product-p.ensures c.cross_product-p.type_inv c.if-p-lt0-2.false)) (≤≥ _ (above_no c.cross_product-q.ensures c.cross_product-q.type_inv c.if-q-gt0.false) (below_no c.cross_product-q.ensures c.cross_product-q.type_inv c.if-q-lt0-2.false))
           (above_yes c.dot_product.ensures c.dot_product.type_inv c.if-dot_product-gt0.true);
     }
 
 pub returns : goal.returns
 returns c =
     record {
-      after = λ us cone. against_along (vec c.args.u) cone (≤≥ _ (above_no c.cross_product-p.ensures c.cross_product-p.ok c.if-p-gt0.false)
-    (below_no c.cross_product-p.ensures c.cross_product-p.ok c.if-p-lt0-2.false)) (≤≥ _ (above_no c.cross_product-q.ensures c.cross_product-q.ok c.if-q-gt0.false) (below_no c.cross_product-q.ensures c.cross_product-q.ok c.if-q-lt0-2.false))
+      after = λ us cone. against_along (vec c.args.u) cone (≤≥ _ (above_no c.cross_product-p.ensures c.cross_product-p.type_inv c.if-p-gt0.false)
+    (below_no c.cross_product-p.ensures c.cross_product-p.type_inv c.if-p-lt0-2.false)) (≤≥ _ (above_no c.cross_product-q.ensures c.cross_product-q.type_inv c.if-q-gt0.false) (below_no c.cross_product-q.ensures c.cross_product-q.type_inv c.if-q-lt0-2.false))
           (above_no c.dot_product.ensures c.dot_product.type_inv c.if-dot_product-gt0.false);
     }

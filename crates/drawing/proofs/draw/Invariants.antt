@@ -1,0 +1,12 @@
+-- The nodes with numbers above j are drawn.
+use native.Mathlib.Omega.{arith}
+use Rattle.drawing.specs.Drawing.{lent}
+use Rattle.slopes.specs.Backward.{Backward, backward_start, backward_edge, backward_ready, backward_step}
+use Rattle.drawing.proofs.Laying.{Laying, laying_start, laying_x, laying_y, laying_step, laying_end}
+use Rattle.drawing.proofs.draw.Given as goal
+
+abbrev pub invariant-loop-j : goal.invariant-loop-j
+invariant-loop-j l = Backward l.parent l.rank l.rule l.work l.j l.here l.after × Laying l.parent l.rank l.rule (lent l.times l.x l.y) l.j
+
+abbrev pub decreases-loop-j : goal.decreases-loop-j
+decreases-loop-j l = l.j

@@ -1,0 +1,7 @@
+-- The whole list is zeroed.
+use borrow.Author.Rules.{rules}
+use Rattle.drawing.proofs.Settling.{freed}
+use Rattle.drawing.proofs.free_all.Goals as goal
+
+pub returns : goal.returns
+returns c = freed c.clear.ensures.0 c.clear.ensures.1
