@@ -1,0 +1,12 @@
+-- While the parent of z does not have v in its subtree, it is still below the lowest common ancestor, and less deep.
+use mathlib.Core.Path.{sym, ◌∙◌}
+use Rattle.table.specs.Ancestry.{depth}
+use Rattle.direction.proofs.Ascent.{Ascending, ascending_start, ascending_inside, ascending_pair}
+use Rattle.direction.proofs.Ascent.{ascending_less, ascending_step, ascending_end}
+use Rattle.direction.proofs.below_meeting.Given as goal
+
+abbrev pub invariant-loop-u : goal.invariant-loop-u
+invariant-loop-u l = Ascending l.parent l.u l.v l.z
+
+abbrev pub decreases-loop-u : goal.decreases-loop-u
+decreases-loop-u l = depth l.parent l.z

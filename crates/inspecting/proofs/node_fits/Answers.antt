@@ -1,0 +1,33 @@
+-- The first test that fails decides.
+use native.Mathlib.Omega.{arith}
+use borrow.Author.Rules.{rules}
+use borrow.Author.Tests.{not-true, not-false}
+use Rattle.drawing.specs.Drawing.{lent}
+use Rattle.inspecting.proofs.Fitting.{fits_never, fits_not_x, fits_x}
+use Rattle.inspecting.proofs.node_fits.Goals as goal
+
+pub returns-then-t-lt1 : goal.returns-then-t-lt1
+returns-then-t-lt1 c =
+    let drawing = lent c.args.times.now c.args.x.now c.args.y.now in
+    fits_never _ _ _ _ drawing c.requires.1 c.get-t.ensures.0 c.if-t-lt1.true
+
+pub placed-right-requires : goal.placed-right-requires
+placed-right-requires c =
+    let inside = c.requires.0.numbered.tree.inside c.args.v c.requires.2 in
+    (omega arith, omega (arith, c.requires.2, c.requires.0.x), c.product.ensures.1)
+
+pub returns-then-not-right : goal.returns-then-not-right
+returns-then-not-right c =
+    fits_not_x _ _ _ _ _ c.requires.1 c.get-t.ensures.0 c.get-p.ensures.0 c.requires.3
+    c.if-t-lt1.false c.product.ensures.0 c.placed-right.ensures c.if-not-right.true
+
+pub placed-requires : goal.placed-requires
+placed-requires c =
+    let inside = c.requires.0.numbered.tree.inside c.args.v c.requires.2 in
+    (omega arith, omega (arith, c.requires.2, c.requires.0.y), c.product-2.ensures.1)
+
+pub returns : goal.returns
+returns c =
+    fits_x _ _ _ _ _ c.requires.1 c.get-t.ensures.0 c.get-p.ensures.0 c.requires.3
+    c.if-t-lt1.false c.product.ensures.0 c.placed-right.ensures
+    c.if-not-right.false c.product-2.ensures.0 c.placed.ensures
