@@ -1,0 +1,10 @@
+-- At the large limits.
+use native.Mathlib.Omega.{arith}
+use borrow.Author.Rules.{rules}
+use Rattle.stretching.proofs.lengthen.Goals as goal
+
+pub returns : goal.returns
+returns c = rw c.large_limits-limits.ensures at c.lengthen_within.ensures
+
+pub lengthen_within-requires : goal.lengthen_within-requires
+lengthen_within-requires c = rw c.large_limits-limits.ensures (omega arith)

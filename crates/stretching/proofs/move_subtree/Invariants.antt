@@ -1,0 +1,12 @@
+-- The places of the subtree up to number j are moved.
+use Prim.Native.Nat.{◌-◌}
+use native.Mathlib.Omega.{arith}
+use Rattle.stretching.proofs.Subtrees.{Moving, first_some, walk_node, moving_start, moving_can, moving_fits}
+use Rattle.stretching.proofs.Subtrees.{moving_step, moving_end}
+use Rattle.stretching.proofs.move_subtree.Given as goal
+
+abbrev pub invariant-loop-j : goal.invariant-loop-j
+invariant-loop-j l = Moving l.parent l.rank l.work l.initial.places l.v l.d l.longer l.places l.last l.j
+
+abbrev pub decreases-loop-j : goal.decreases-loop-j
+decreases-loop-j l = l.last - l.j

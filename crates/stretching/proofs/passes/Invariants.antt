@@ -1,0 +1,12 @@
+-- The places of the subtree up to number j are within the limit.
+use Prim.Native.Nat.{◌-◌}
+use native.Mathlib.Omega.{arith}
+use Rattle.stretching.proofs.Subtrees.{Clear, first_some, walk_node, clear_start, clear_step, clear_end}
+use Rattle.stretching.proofs.Subtrees.{passes_yes}
+use Rattle.stretching.proofs.passes.Given as goal
+
+abbrev pub invariant-loop-j : goal.invariant-loop-j
+invariant-loop-j l = Clear l.limit l.parent l.rank l.work l.places l.v l.d l.last l.j
+
+abbrev pub decreases-loop-j : goal.decreases-loop-j
+decreases-loop-j l = l.last - l.j

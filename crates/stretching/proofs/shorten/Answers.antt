@@ -1,0 +1,10 @@
+-- At the large limits.
+use native.Mathlib.Omega.{arith}
+use borrow.Author.Rules.{rules}
+use Rattle.stretching.proofs.shorten.Goals as goal
+
+pub returns : goal.returns
+returns c = rw c.large_limits-limits.ensures at c.shorten_within.ensures
+
+pub shorten_within-requires : goal.shorten_within-requires
+shorten_within-requires c = rw c.large_limits-limits.ensures (omega arith)
