@@ -1,0 +1,6 @@
+-- At the large limits.
+use borrow.Author.Rules.{rules}
+use Rattle.aligning.proofs.column.Goals as goal
+
+pub returns : goal.returns
+returns c = rw c.large_limits-limits.ensures at c.column_within.ensures

@@ -1,0 +1,18 @@
+-- The lengthens before the i-th are made, and none of them is refused.
+use mathlib.Core.Path.{◌≡◌, refl, ◌∙◌}
+use Prim.Native.Nat.{◌-◌}
+use native.Mathlib.Omega.{arith}
+use lib.ListN.{length}
+use borrow.Author.Rules.{rules}
+use Rattle.drawing.specs.Drawing.{lent, sheet_of}
+use Rattle.drawing.specs.Parts.{framable}
+use Rattle.arranging.proofs.Turns.{Turning, turning_start, turning_step, turning_refused, turning_end}
+use Rattle.arranging.proofs.lengthen_in_turn.Given as goal
+
+abbrev pub invariant-loop-i : goal.invariant-loop-i
+invariant-loop-i l = Turning l.limits l.parent l.rank l.rule l.work (sheet_of (lent l.initial.times l.initial.x l.initial.y) l.held) l.lots l.counts
+    (sheet_of (lent l.times l.x l.y) l.held) l.i
+    × (length l.times ≡ length l.initial.times) × (length l.x ≡ length l.initial.x) × (length l.y ≡ length l.initial.y)
+
+abbrev pub decreases-loop-i : goal.decreases-loop-i
+decreases-loop-i l = length l.lots - l.i

@@ -1,0 +1,10 @@
+-- At the large limits.
+use native.Mathlib.Omega.{arith}
+use borrow.Author.Rules.{rules}
+use Rattle.holding.proofs.hold.Goals as goal
+
+pub returns : goal.returns
+returns c = rw c.large_limits-limits.ensures at c.hold_within.ensures
+
+pub hold_within-requires : goal.hold_within-requires
+hold_within-requires c = rw c.large_limits-limits.ensures (omega arith)
