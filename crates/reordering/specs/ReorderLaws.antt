@@ -50,7 +50,7 @@ abbrev pub lengths : List Lengthening → ℕ → ℕ
 lengths calls z = foldr (add z) 0 calls
 
 lengths-order : {calls others : List Lengthening} → Perm calls others → (z : ℕ) → lengths calls z ≡ lengths others z
-lengths-order p z = Perm.foldr_eq ℕ_set (add z) (λ a b k. omega arith) p 0
+lengths-order p z = Perm.foldr-eq ℕ_set (add z) (λ a b k. omega arith) p 0
 
 ------------------------------------------------------------------------
 -- Drawings on the way to one with larger times
@@ -91,7 +91,7 @@ module _ (L : Limits) (P R : List ℕ) (rule : Rule) where
   stretchable_order : (s : Sheet) {calls others : List Lengthening} → Perm calls others
       → all_stretchable s calls ≡ all_stretchable s others
   stretchable_order s p =
-      Perm.foldr_eq Bool-set (λ (c : Lengthening) (b : Bool). stretchable s c && b)
+      Perm.foldr-eq Bool-set (λ (c : Lengthening) (b : Bool). stretchable s c && b)
       (λ a b k. and_swap (stretchable s a) (stretchable s b) k) p true
 
   stretchable_free : (s : Sheet) (c : Lengthening) → stretchable s c ≡ true → Free L P R rule s c.work c.node
@@ -193,7 +193,7 @@ module _ (L : Limits) (P R : List ℕ) (rule : Rule) where
       → all_accepted L P R rule o.left calls ≡ true → Perm calls others → Alike L P R rule o calls others
   unfolding all_accepted after made
   reordered o framed [] others a p =
-      subst (Alike L P R rule o []) (Perm.nil_eq p) (record { accepted = refl; same = refl; framed = framed })
+      subst (Alike L P R rule o []) (Perm.nil-eq p) (record { accepted = refl; same = refl; framed = framed })
   reordered o framed (c ∷ cs) others a p =
       let calls : List Lengthening = c ∷ cs in
       let given = accepted-free L P R rule o.left _ _ _ (both _ _ a).0 in
