@@ -1,0 +1,25 @@
+-- The call's own contract, with its answer written.
+use mathlib.Core.Path.{refl}
+use Rattle.lineage.specs.Exports.{Replied}
+use Rattle.lineage.proofs.Exporting.{written_short}
+use borrow.Author.Rules.{rules}
+use Rattle.lineage.proofs.lineage_write_tree.Goals as goal
+
+pub returns-then-reply-ne3 : goal.returns-then-reply-ne3
+unfolding Replied
+returns-then-reply-ne3 c = (c.if-reply-ne3.true, refl, (refl, refl))
+
+pub put_saved-requires : goal.put_saved-requires
+put_saved-requires c = (c.if-reply-ne3.false, written_short _ _ _ _ c.write_tree-answer.ensures)
+
+pub returns : goal.returns
+unfolding Replied
+returns c =
+    (
+      c.if-reply-ne3.false,
+      record {
+        answer = c.write_tree-answer.result;
+        kept = c.write_tree-answer.ensures;
+        written = c.put_saved.ensures;
+      },
+    )
