@@ -1,5 +1,6 @@
 // The call that says by what count a lot comes to a column (document 02, request 110).
 #![tactic(auto)]
+
 ghost use Rattle.std.specs.Prelude.{length};
 ghost use Rattle.table.specs.Numbering.{NumberedTree};
 ghost use Rattle.table.specs.Table.{large};

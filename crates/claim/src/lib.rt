@@ -1,6 +1,7 @@
 // A tree laid out, and a lent list of lengthen, shorten and hold calls made one after the other: what the claim says of
 // every list of calls holds of what this function leaves.
 #![tactic(auto)]
+
 ghost use Rattle.std.specs.Prelude.{◌≡◌, length};
 ghost use Rattle.table.specs.Table.{large};
 ghost use Rattle.drawing.specs.Drawing.{sheet, to_write};

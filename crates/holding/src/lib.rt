@@ -1,5 +1,6 @@
 // The call that holds an edge or frees it (document 02, request 108).
 #![tactic(auto)]
+
 ghost use Rattle.std.specs.Prelude.{◌≡◌, ◌<◌, length, set};
 ghost use Rattle.table.specs.Table.{large};
 ghost use Rattle.drawing.specs.Drawing.{sheet, Does, to_read, to_write};

@@ -1,5 +1,6 @@
 // The tests of refusal 8 (document 01, "Layout, lengthen, shorten"; held edges: document 02, request 108).
 #![tactic(auto)]
+
 ghost use Rattle.std.specs.Prelude.{true, ◌≡◌, ◌+◌, ◌*◌, ◌^◌, ◌≤◌, ◌<◌, min, length};
 ghost use Rattle.laws.specs.Search.{least};
 ghost use Rattle.slopes.specs.Slopes.{edge};

@@ -2,6 +2,7 @@
 // and returns true; where the reply, or a window's point, is not so long it writes nothing at all and returns false.
 // include/lineage.h says what the numbers mean.
 #![tactic(auto)]
+
 ghost use Rattle.std.specs.Prelude.{◌≡◌, length};
 ghost use Rattle.table.specs.Table.{large, small, checked};
 ghost use Rattle.numbers.specs.PostNumbers.{spans, Spanned};

@@ -1,5 +1,6 @@
 // The post numbers under each node (document 02, request 107).
 #![tactic(auto)]
+
 ghost use Rattle.table.specs.Table.{large};
 ghost use Rattle.numbers.specs.PostNumbers.{spans, Spanned};
 

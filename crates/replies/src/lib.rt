@@ -1,6 +1,7 @@
 // Answers as the numbers of the C interface's replies, three, or four for a list of lengthens, and as the two positions
 // of a point. include/lineage.h says what they mean.
 #![tactic(auto)]
+
 ghost use Rattle.std.specs.Prelude.{[], ◌∷◌, ◌≡◌, ◌^◌, ◌<◌, pos, length};
 ghost use Rattle.replies.specs.Replies.{three, counted_reply, framed_reply, heading_reply, verdict_reply, saved_reply};
 ghost use Rattle.replies.specs.Replies.{four, arranged_reply, aligned_reply, screen, view_reply};

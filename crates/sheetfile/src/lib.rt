@@ -1,5 +1,6 @@
 // From a tree file's bytes to the text that the program `sheet` prints.
 #![tactic(auto)]
+
 ghost use Rattle.std.specs.Prelude.{◌≡◌, length};
 ghost use Rattle.text.specs.Text.{Appended};
 ghost use Rattle.sheetfile.specs.SheetFile.{lots_in, sheet_text, Fitting, Ample};

@@ -1,6 +1,7 @@
 // The small cabinet's layout, lengthen and shorten (document 02, request 106): the calls of `drawing` and `stretching`,
 // at limits of their own.
 #![tactic(auto)]
+
 ghost use Rattle.table.specs.Table.{small};
 ghost use Rattle.drawing.specs.Drawing.{layout, sheet, Does, to_read, to_write};
 ghost use Rattle.stretching.specs.Stretching.{lengthen, shorten};

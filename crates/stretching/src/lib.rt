@@ -2,6 +2,7 @@
 //
 // Both are one move with a sign: `longer` says which.
 #![tactic(auto)]
+
 ghost use Rattle.std.specs.Prelude.{true, false, ◌≡◌, ◌+◌, ◌^◌, ◌≤◌, ◌<◌, length};
 ghost use Rattle.table.specs.Acceptance.{validity};
 ghost use Rattle.table.specs.Numbering.{NumberedTree};

@@ -4,6 +4,7 @@
 // each node's children (at 0 to n), then how many nodes stand in each slot, and then marks (from n + 1 on). `number`
 // leaves the post numbers at 0, the first numbers of the subtrees at 2n and the post-order itself at 3n.
 #![tactic(auto)]
+
 ghost use Rattle.std.specs.Prelude.{true, [], ◌∷◌, ◌≡◌, ◌+◌, ◌*◌, ◌^◌, ◌≤◌, ◌<◌, length, get_or, set};
 ghost use Rattle.laws.specs.Regions.{Only};
 ghost use Rattle.laws.specs.Search.{least};

@@ -1,5 +1,6 @@
 // The tallest sheet (document 02, request 113).
 #![tactic(auto)]
+
 ghost use Rattle.std.specs.Prelude.{◌≡◌, ◌^◌, ◌<◌, length};
 ghost use Rattle.table.specs.Table.{large};
 ghost use Rattle.tallest.specs.Tallest.{lists, chain_of, Fills};

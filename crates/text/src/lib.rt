@@ -2,6 +2,7 @@
 //
 // Each writer puts its text in from the place `at` on, leaves what stands before it, and returns the place after it.
 #![tactic(auto)]
+
 ghost use Rattle.std.specs.Prelude.{[], ◌∷◌, ◌≡◌, ◌+◌, ◌*◌, ◌/◌, ◌%◌, ◌^◌, ◌≤◌, ◌<◌, length};
 ghost use Rattle.text.specs.Text.{decimal, field, lot_lines, sheet_of, refusal_of, Appended};
 ghost use Rattle.text.specs.Parts.{Unit, line_of, title_of, places_of, Lines};

@@ -7,7 +7,7 @@
 --   says_one           == there is one answer
 use Rattle.std.specs.Prelude.{true, ◌≡◌, ℕ, ◌+◌, ◌-◌, ◌^◌, ◌≤◌, ◌<◌, T, leb, ltb, pos, Float}
 use Rattle.std.proofs.Math.Path.{refl}
-use Rattle.std.proofs.Common.{sym, arith, leb-true, ltb-true, pow_pos}
+use Rattle.std.proofs.Common.{arith, leb-true, ltb-true, pow_pos}
 use Rattle.std.specs.Float.{binary64}
 use Rattle.std.specs.Float.Ieee.{div, mul, eq, of_int, prec}
 use Rattle.std.specs.Float.Ieee.Fits.{div-fits}

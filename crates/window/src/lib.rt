@@ -1,5 +1,6 @@
 // Where a place stands in a window of the cabinet's screen (document 02, request 103).
 #![tactic(auto)]
+
 ghost use Rattle.std.specs.Prelude.{◌≡◌, ◌≤◌};
 ghost use Rattle.window.specs.Window.{greatest, within, Exact, Says};
 

@@ -1,5 +1,4 @@
 -- At the large limits.
-use borrow.Author.Rules.{rules}
 use Rattle.aligning.proofs.column.Goals as goal
 
 pub returns : goal.returns

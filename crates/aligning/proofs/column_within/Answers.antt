@@ -1,5 +1,4 @@
 -- Refusals 1 to 10, then the count.
-use borrow.Author.Rules.{rules}
 use Rattle.aligning.proofs.Counting.{ready, refused, answered}
 use Rattle.aligning.proofs.column_within.Goals as goal
 

@@ -2,7 +2,6 @@
 use Prim.Native.Nat.{◌-◌}
 use native.Mathlib.Nat.{div-mul-le_self, div-le_self}
 use native.Mathlib.Omega.{arith}
-use borrow.Author.Rules.{rules}
 use Rattle.aligning.proofs.Counting.{held, to_the_left, goes_across, no_multiple, passes_limit, counted}
 use Rattle.aligning.proofs.count_to.Goals as goal
 

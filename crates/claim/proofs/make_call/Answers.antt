@@ -1,6 +1,5 @@
 -- A call's outcome is the definition's.
 use mathlib.Core.Path.{refl}
-use borrow.Author.Rules.{rules}
 use Rattle.claim.proofs.Replaying.{made_longer, made_shorter, made_held}
 use Rattle.claim.proofs.make_call.Goals as goal
 

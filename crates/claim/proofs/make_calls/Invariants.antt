@@ -1,12 +1,10 @@
 -- The calls before the i-th are made.
-use mathlib.Core.Path.{◌≡◌, refl, ◌∙◌}
+use mathlib.Core.Path.{◌≡◌}
 use Prim.Native.Nat.{◌-◌}
-use native.Mathlib.Omega.{arith}
 use lib.ListN.{length}
-use borrow.Author.Rules.{rules}
 use Rattle.table.specs.Table.{large}
 use Rattle.drawing.specs.Drawing.{lent, sheet_of}
-use Rattle.claim.proofs.Replaying.{Running, running_start, running_step, running_end}
+use Rattle.claim.proofs.Replaying.{Running}
 use Rattle.claim.proofs.make_calls.Given as goal
 
 abbrev pub invariant-loop-i : goal.invariant-loop-i

@@ -1,5 +1,4 @@
 -- Layout's outcome, and the calls made on it.
-use borrow.Author.Rules.{rules}
 use Rattle.claim.proofs.Replaying.{replayed_refused, replayed_all}
 use Rattle.claim.proofs.replay.Goals as goal
 

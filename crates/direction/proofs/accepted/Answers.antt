@@ -2,7 +2,6 @@
 use mathlib.Core.Logic.{⊎_elim}
 use lib.Dec.{leb}
 use lib.ListN.{length}
-use borrow.Author.Rules.{rules}
 use borrow.Author.Tests.{le-leb, lt-leb}
 use Rattle.laws.specs.Tests.{either_first, either_second, neither_is}
 use Rattle.direction.proofs.Replies.{no_node, both_nodes}

@@ -1,8 +1,6 @@
 -- While the parent of z does not have v in its subtree, it is still below the lowest common ancestor, and less deep.
-use mathlib.Core.Path.{sym, ◌∙◌}
 use Rattle.table.specs.Ancestry.{depth}
-use Rattle.direction.proofs.Ascent.{Ascending, ascending_start, ascending_inside, ascending_pair}
-use Rattle.direction.proofs.Ascent.{ascending_less, ascending_step, ascending_end}
+use Rattle.direction.proofs.Ascent.{Ascending}
 use Rattle.direction.proofs.below_meeting.Given as goal
 
 abbrev pub invariant-loop-u : goal.invariant-loop-u

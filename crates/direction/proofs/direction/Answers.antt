@@ -1,5 +1,4 @@
 -- A refused table's refusal is the call's; an accepted one is numbered.
-use borrow.Author.Rules.{rules}
 use Rattle.direction.proofs.Replies.{table_refused, table_numbered, table_accepted}
 use Rattle.direction.proofs.direction.Goals as goal
 

@@ -1,5 +1,4 @@
 -- One node may be in the other's subtree; otherwise both climb to the children of their lowest common ancestor.
-use borrow.Author.Rules.{rules}
 use mathlib.Core.Path.{sym, ◌∙◌}
 use Rattle.slopes.specs.Slopes.{edge}
 use Rattle.direction.proofs.Headings.{pair_back, heading_down, heading_up, side_edges, heading_side}

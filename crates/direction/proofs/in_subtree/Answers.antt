@@ -1,5 +1,4 @@
 -- A subtree is an interval of post numbers.
-use borrow.Author.Rules.{rules}
 use Rattle.direction.proofs.Intervals.{under-by_last, under-by_first}
 use Rattle.direction.proofs.in_subtree.Goals as goal
 

@@ -1,5 +1,4 @@
 -- The negation of a number below 2^31 fits.
-use borrow.Author.Rules.{rules}
 use Rattle.direction.proofs.Signs32.{minus_fits, minus_is}
 use Rattle.direction.proofs.minus.Goals as goal
 

@@ -1,5 +1,4 @@
 -- Below 2^31 the signed reading is the number itself.
-use borrow.Author.Rules.{rules}
 use mir.Syntax.{w32}
 use mir.ValLaws.{to_z_pos}
 use Rattle.direction.proofs.plus.Goals as goal

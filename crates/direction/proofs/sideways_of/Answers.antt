@@ -1,16 +1,14 @@
 -- Ranks decide to which side the sum of two slopes is turned, and of which nodes they are.
-use borrow.Author.Rules.{rules}
 use Rattle.slopes.specs.Slopes.{edge}
 use Rattle.direction.proofs.EdgeSlopes.{small-edge}
 use Rattle.direction.proofs.Headings.{sideways_left, sideways_right}
 use Rattle.direction.proofs.sideways_of.Goals as goal
 
 pub turned-requires : goal.turned-requires
-turned-requires c =
-    (
-      small-edge c.requires.0 _ c.requires.2.first c.requires.2.pair.first c.edge_slope-s.ensures,
-      small-edge c.requires.0 _ c.requires.1.second c.requires.1.pair.second c.edge_slope-t.ensures,
-    )
+turned-requires c = (
+  small-edge c.requires.0 _ c.requires.2.first c.requires.2.pair.first c.edge_slope-s.ensures,
+  small-edge c.requires.0 _ c.requires.1.second c.requires.1.pair.second c.edge_slope-t.ensures,
+)
 
 pub returns-then-get : goal.returns-then-get
 returns-then-get c =
@@ -20,11 +18,10 @@ returns-then-get c =
     c.edge_slope-s.ensures c.edge_slope-t.ensures c.turned.ensures
 
 pub turned-requires-2 : goal.turned-requires-2
-turned-requires-2 c =
-    (
-      small-edge c.requires.0 _ c.requires.2.second c.requires.2.pair.second c.edge_slope-s-2.ensures,
-      small-edge c.requires.0 _ c.requires.1.first c.requires.1.pair.first c.edge_slope-t-2.ensures,
-    )
+turned-requires-2 c = (
+  small-edge c.requires.0 _ c.requires.2.second c.requires.2.pair.second c.edge_slope-s-2.ensures,
+  small-edge c.requires.0 _ c.requires.1.first c.requires.1.pair.first c.edge_slope-t-2.ensures,
+)
 
 pub returns : goal.returns
 returns c =

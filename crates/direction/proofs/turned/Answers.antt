@@ -1,5 +1,4 @@
 -- The sums of the parts are below 2^31, so they and their negations are signed numbers.
-use borrow.Author.Rules.{rules}
 use Rattle.direction.proofs.Signs32.{turned_left, turned_right}
 use Rattle.direction.proofs.turned.Goals as goal
 

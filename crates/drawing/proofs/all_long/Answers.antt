@@ -3,7 +3,6 @@ use mathlib.Core.Path.{◌∙◌}
 use borrow.Author.Tests.{eq-eqb, ne_eqb}
 use Rattle.table.specs.Table.{all_long}
 use Rattle.laws.specs.Tests.{first_fails, first_holds}
-use borrow.Author.Rules.{rules}
 use Rattle.drawing.proofs.all_long.Goals as goal
 
 pub returns-then-times-n : goal.returns-then-times-n

@@ -1,16 +1,14 @@
 -- The nodes with numbers above j are drawn.
 use native.Mathlib.Omega.{arith}
-use Rattle.drawing.specs.Drawing.{lent}
-use Rattle.slopes.specs.Backward.{Backward, backward_start, backward_edge, backward_ready, backward_step}
-use Rattle.drawing.proofs.Laying.{Laying, laying_start, laying_x, laying_y, laying_step, laying_end}
+use Rattle.slopes.specs.Backward.{backward_start, backward_edge, backward_ready, backward_step}
+use Rattle.drawing.proofs.Laying.{laying_start, laying_x, laying_y, laying_step, laying_end}
 use Rattle.drawing.proofs.draw.Goals as goal
 
 pub loop-j-init : goal.loop-j-init
-loop-j-init c =
-    (
-      backward_start c.requires.sized.numbered c.bordered_at-here.ensures c.bordered_at-after.ensures,
-      laying_start c.requires c.put.ensures c.put-2.ensures c.put-3.ensures,
-    )
+loop-j-init c = (
+  backward_start c.requires.sized.numbered c.bordered_at-here.ensures c.bordered_at-after.ensures,
+  laying_start c.requires c.put.ensures c.put-2.ensures c.put-3.ensures,
+)
 
 pub node_at-v-requires : goal.node_at-v-requires
 node_at-v-requires c = (c.loop-j.invariant.0.numbered, c.loop-j-test.true, c.loop-j.invariant.0.low)
@@ -32,13 +30,12 @@ pub slope_before-before-requires : goal.slope_before-before-requires
 slope_before-before-requires c = backward_ready c.loop-j.invariant.0 c.loop-j-test.true
 
 pub loop-j-preserved : goal.loop-j-preserved
-loop-j-preserved c =
-    (
-      backward_step c.loop-j.invariant.0 c.loop-j-test.true c.slope_before-before.ensures,
-      laying_step c.loop-j.invariant.1 c.node_at-v.ensures c.get-p.ensures.0 (backward_edge c.loop-j.invariant.0 c.loop-j-test.true c.node_at-v.ensures)
-          c.put-in-loop-j.ensures
-          c.hang.ensures c.hang-in-loop-j.ensures,
-    )
+loop-j-preserved c = (
+  backward_step c.loop-j.invariant.0 c.loop-j-test.true c.slope_before-before.ensures,
+  laying_step c.loop-j.invariant.1 c.node_at-v.ensures c.get-p.ensures.0 (backward_edge c.loop-j.invariant.0 c.loop-j-test.true c.node_at-v.ensures)
+      c.put-in-loop-j.ensures
+      c.hang.ensures c.hang-in-loop-j.ensures,
+)
 
 pub returns : goal.returns
 returns c = laying_end c.loop-j.invariant.1 c.loop-j-test.false

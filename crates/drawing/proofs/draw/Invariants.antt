@@ -1,8 +1,7 @@
 -- The nodes with numbers above j are drawn.
-use native.Mathlib.Omega.{arith}
 use Rattle.drawing.specs.Drawing.{lent}
-use Rattle.slopes.specs.Backward.{Backward, backward_start, backward_edge, backward_ready, backward_step}
-use Rattle.drawing.proofs.Laying.{Laying, laying_start, laying_x, laying_y, laying_step, laying_end}
+use Rattle.slopes.specs.Backward.{Backward}
+use Rattle.drawing.proofs.Laying.{Laying}
 use Rattle.drawing.proofs.draw.Given as goal
 
 abbrev pub invariant-loop-j : goal.invariant-loop-j

@@ -1,7 +1,6 @@
 -- One more than each coordinate's largest.
 use mathlib.Core.Path.{ap₂}
 use Prim.Native.Nat.{◌+◌}
-use borrow.Author.Rules.{rules}
 use Rattle.drawing.specs.declared.Framed.TheVariants.{Frame}
 use Rattle.drawing.specs.Drawing.{frame}
 use Rattle.drawing.proofs.frame_of.Goals as goal

@@ -1,5 +1,4 @@
 -- The whole list is zeroed.
-use borrow.Author.Rules.{rules}
 use Rattle.drawing.proofs.Settling.{freed}
 use Rattle.drawing.proofs.free_all.Goals as goal
 

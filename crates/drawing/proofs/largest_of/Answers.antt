@@ -1,8 +1,5 @@
 -- What was found so far, and the rest of the list, have the largest.
-use Prim.Native.Nat.{◌-◌}
-use native.Mathlib.Omega.{arith}
-use lib.ListN.{length}
-use Rattle.drawing.proofs.Maximum.{Maximum, maximum_start, maximum_step, maximum_end}
+use Rattle.drawing.proofs.Maximum.{maximum_start, maximum_step, maximum_end}
 use Rattle.drawing.proofs.largest_of.Goals as goal
 
 pub loop-i-init : goal.loop-i-init

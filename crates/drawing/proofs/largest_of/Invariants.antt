@@ -1,8 +1,7 @@
 -- What was found so far, and the rest of the list, have the largest.
 use Prim.Native.Nat.{◌-◌}
-use native.Mathlib.Omega.{arith}
 use lib.ListN.{length}
-use Rattle.drawing.proofs.Maximum.{Maximum, maximum_start, maximum_step, maximum_end}
+use Rattle.drawing.proofs.Maximum.{Maximum}
 use Rattle.drawing.proofs.largest_of.Given as goal
 
 abbrev pub invariant-loop-i : goal.invariant-loop-i

@@ -1,7 +1,6 @@
 -- At the large limits.
 use native.Mathlib.Omega.{arith}
 use Rattle.drawing.specs.FreshLaws.{large_roomy}
-use borrow.Author.Rules.{rules}
 use Rattle.drawing.proofs.layout.Goals as goal
 
 pub returns : goal.returns

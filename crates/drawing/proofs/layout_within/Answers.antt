@@ -1,6 +1,5 @@
 -- A refusal leaves the drawing; an accepted table is drawn.
 use Rattle.drawing.proofs.Settling.{blank, fresh_framable, laid_refused, laid_fresh}
-use borrow.Author.Rules.{rules}
 use Rattle.drawing.proofs.layout_within.Goals as goal
 
 pub draw-requires : goal.draw-requires

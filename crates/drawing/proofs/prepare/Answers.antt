@@ -1,7 +1,6 @@
 -- The table's own refusals, with the lists of the sheet among those that are lent.
 use Rattle.drawing.specs.Drawing.{lent, sheet_of}
 use Rattle.drawing.proofs.Settling.{prepared}
-use borrow.Author.Rules.{rules}
 use Rattle.drawing.proofs.prepare.Goals as goal
 
 pub returns : goal.returns

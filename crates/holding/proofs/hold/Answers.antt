@@ -1,6 +1,5 @@
 -- At the large limits.
 use native.Mathlib.Omega.{arith}
-use borrow.Author.Rules.{rules}
 use Rattle.holding.proofs.hold.Goals as goal
 
 pub returns : goal.returns

@@ -1,5 +1,4 @@
 -- Refusals 1 to 10, then the entry.
-use borrow.Author.Rules.{rules}
 use Rattle.holding.proofs.Marked.{held_refused, within, still_framable, marked_now}
 use Rattle.holding.proofs.hold_within.Goals as goal
 

@@ -1,17 +1,14 @@
 -- Every node with a number above j fits.
 use native.Mathlib.Omega.{arith}
-use borrow.Author.Tests.{not-true, not-false}
-use Rattle.drawing.specs.Drawing.{lent}
-use Rattle.slopes.specs.Backward.{Backward, backward_start, backward_edge, backward_ready, backward_step}
-use Rattle.inspecting.proofs.Fitting.{FitAbove, above_start, above_step, above_not, above_end}
+use Rattle.slopes.specs.Backward.{backward_start, backward_edge, backward_ready, backward_step}
+use Rattle.inspecting.proofs.Fitting.{above_start, above_step, above_not, above_end}
 use Rattle.inspecting.proofs.all_fit.Goals as goal
 
 pub loop-j-init : goal.loop-j-init
-loop-j-init c =
-    (
-      backward_start c.requires.0.numbered c.bordered_at-here.ensures c.bordered_at-after.ensures,
-      above_start c.requires.0.numbered.tree c.requires.1,
-    )
+loop-j-init c = (
+  backward_start c.requires.0.numbered c.bordered_at-here.ensures c.bordered_at-after.ensures,
+  above_start c.requires.0.numbered.tree c.requires.1,
+)
 
 pub node_at-v-requires : goal.node_at-v-requires
 node_at-v-requires c = (c.loop-j.invariant.0.numbered, c.loop-j-test.true, c.loop-j.invariant.0.low)
@@ -23,11 +20,10 @@ pub slope_before-before-requires : goal.slope_before-before-requires
 slope_before-before-requires c = backward_ready c.loop-j.invariant.0 c.loop-j-test.true
 
 pub loop-j-preserved : goal.loop-j-preserved
-loop-j-preserved c =
-    (
-      backward_step c.loop-j.invariant.0 c.loop-j-test.true c.slope_before-before.ensures,
-      above_step c.loop-j.invariant.1 c.node_at-v.ensures c.node_fits-fits.ensures c.if-not-fits.false,
-    )
+loop-j-preserved c = (
+  backward_step c.loop-j.invariant.0 c.loop-j-test.true c.slope_before-before.ensures,
+  above_step c.loop-j.invariant.1 c.node_at-v.ensures c.node_fits-fits.ensures c.if-not-fits.false,
+)
 
 pub returns-then-not-fits : goal.returns-then-not-fits
 returns-then-not-fits c = above_not c.node_at-v.ensures c.node_fits-fits.ensures c.if-not-fits.true

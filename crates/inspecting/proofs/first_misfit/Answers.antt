@@ -1,11 +1,5 @@
 -- The root by itself, then the others in either order.
-use borrow.Author.Rules.{rules}
-use borrow.Author.Tests.{not-true, not-false}
-use mathlib.Core.Bool.{true}
-use mathlib.Core.Path.{◌≡◌, sym, ◌∙◌}
-use Rattle.drawing.specs.Drawing.{lent}
-use Rattle.drawing.specs.Parts.{Sized}
-use Rattle.inspecting.specs.Parts.{root_fits}
+use mathlib.Core.Path.{sym, ◌∙◌}
 use Rattle.inspecting.proofs.Fitting.{misfit_root, none-misfit}
 use Rattle.inspecting.proofs.first_misfit.Goals as goal
 

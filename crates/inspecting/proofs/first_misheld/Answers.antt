@@ -1,12 +1,7 @@
 -- No entry below z is wrong.
-use mathlib.Core.Bool.{false}
-use mathlib.Core.Path.{◌≡◌}
-use Prim.Native.Nat.{ℕ, ◌-◌, ◌≤◌, ◌<◌}
 use native.Mathlib.Omega.{arith}
-use lib.ListN.{length}
 use borrow.Author.Count.{below_more, below_none}
 use Rattle.laws.specs.SearchLaws.{least_is}
-use Rattle.inspecting.specs.Parts.{misheld}
 use Rattle.inspecting.proofs.Fitting.{root_misheld, root_unheld, node_misheld, node_well}
 use Rattle.inspecting.proofs.first_misheld.Goals as goal
 
@@ -16,8 +11,7 @@ returns-then-get-ne0 c =
     (λ l. root_misheld _ c.get.ensures.0 c.if-get-ne0.true)
 
 pub loop-z-init : goal.loop-z-init
-loop-z-init c =
-    (
+loop-z-init c = (
   omega arith,
   omega arith,
   below_more _ 0 (below_none _) (root_unheld _ c.get.ensures.0 c.if-get-ne0.false),
@@ -29,13 +23,12 @@ returns-then-get-gt1 c =
     (λ l. node_misheld _ _ c.loop-z.invariant.0 c.get-in-loop-z.ensures.0 c.if-get-gt1.true)
 
 pub loop-z-preserved : goal.loop-z-preserved
-loop-z-preserved c =
-    (
-      omega arith,
-      omega arith,
-      below_more _ _ c.loop-z.invariant.2
-          (node_well _ _ c.loop-z.invariant.0 c.get-in-loop-z.ensures.0 c.if-get-gt1.false),
-    )
+loop-z-preserved c = (
+  omega arith,
+  omega arith,
+  below_more _ _ c.loop-z.invariant.2
+      (node_well _ _ c.loop-z.invariant.0 c.get-in-loop-z.ensures.0 c.if-get-gt1.false),
+)
 
 pub returns : goal.returns
 returns c = least_is _ _ _ (omega arith) (λ k l. c.loop-z.invariant.2 k (omega arith)) (λ l. absurd (omega arith))

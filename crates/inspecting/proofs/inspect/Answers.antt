@@ -1,6 +1,5 @@
 -- Refusals 1 to 7, then 8, of the drawing and of held.
 use native.Mathlib.Omega.{arith}
-use borrow.Author.Rules.{rules}
 use Rattle.inspecting.proofs.Inspecting.{first_fault, inspecting_table, inspecting_8, inspecting_all}
 use Rattle.inspecting.proofs.inspect.Goals as goal
 

@@ -1,10 +1,6 @@
 -- Every node below v fits.
-use Prim.Native.Nat.{◌-◌}
 use native.Mathlib.Omega.{arith}
-use lib.ListN.{length}
-use borrow.Author.Tests.{not-true, not-false}
-use Rattle.drawing.specs.Drawing.{lent}
-use Rattle.inspecting.proofs.Fitting.{FitBelow, below_start, below_step, below_not, below_end}
+use Rattle.inspecting.proofs.Fitting.{below_start, below_step, below_not, below_end}
 use Rattle.inspecting.proofs.misfit_by_node.Goals as goal
 
 pub loop-v-init : goal.loop-v-init

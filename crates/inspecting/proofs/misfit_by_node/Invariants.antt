@@ -1,10 +1,8 @@
 -- Every node below v fits.
 use Prim.Native.Nat.{◌-◌}
-use native.Mathlib.Omega.{arith}
 use lib.ListN.{length}
-use borrow.Author.Tests.{not-true, not-false}
 use Rattle.drawing.specs.Drawing.{lent}
-use Rattle.inspecting.proofs.Fitting.{FitBelow, below_start, below_step, below_not, below_end}
+use Rattle.inspecting.proofs.Fitting.{FitBelow}
 use Rattle.inspecting.proofs.misfit_by_node.Given as goal
 
 abbrev pub invariant-loop-v : goal.invariant-loop-v

@@ -1,7 +1,5 @@
 -- The first test that fails decides.
 use native.Mathlib.Omega.{arith}
-use borrow.Author.Rules.{rules}
-use borrow.Author.Tests.{not-true, not-false}
 use Rattle.drawing.specs.Drawing.{lent}
 use Rattle.inspecting.proofs.Fitting.{fits_never, fits_not_x, fits_x}
 use Rattle.inspecting.proofs.node_fits.Goals as goal

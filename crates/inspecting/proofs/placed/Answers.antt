@@ -4,7 +4,6 @@ use Prim.Native.Nat.{ℕ, ◌+◌}
 use lib.Dec.{leb}
 use borrow.Author.Tests.{eq-eqb, ne_eqb}
 use Rattle.laws.specs.Tests.{first_fails, first_holds}
-use borrow.Author.Rules.{rules}
 use Rattle.inspecting.proofs.placed.Goals as goal
 
 pub returns-then-place-get : goal.returns-then-place-get

@@ -4,7 +4,6 @@ use Prim.Native.Nat.{ℕ}
 use lib.Dec.{eqb}
 use borrow.Author.Tests.{eq-eqb, ne_eqb}
 use Rattle.laws.specs.Tests.{first_fails, first_holds}
-use borrow.Author.Rules.{rules}
 use Rattle.inspecting.proofs.root_fits.Goals as goal
 
 pub returns-then-get-ne1 : goal.returns-then-get-ne1

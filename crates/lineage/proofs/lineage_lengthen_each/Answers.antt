@@ -3,7 +3,6 @@ use mathlib.Core.Path.{refl}
 use native.Mathlib.Omega.{arith}
 use Rattle.lineage.specs.Exports.{Replied}
 use Rattle.lineage.proofs.Exporting.{arranged_near}
-use borrow.Author.Rules.{rules}
 use Rattle.lineage.proofs.lineage_lengthen_each.Goals as goal
 
 pub returns-then-reply-ne4 : goal.returns-then-reply-ne4
@@ -15,12 +14,11 @@ put_arranged-requires c = (c.if-reply-ne4.false, arranged_near _ _ _ _ _ _ _ c.l
 
 pub returns : goal.returns
 unfolding Replied
-returns c =
-    (
-      c.if-reply-ne4.false,
-      record {
-        answer = c.lengthen_each-answer.result;
-        kept = rw c.rule_of.ensures at c.lengthen_each-answer.ensures;
-        written = c.put_arranged.ensures;
-      },
-    )
+returns c = (
+  c.if-reply-ne4.false,
+  record {
+    answer = c.lengthen_each-answer.result;
+    kept = rw c.rule_of.ensures at c.lengthen_each-answer.ensures;
+    written = c.put_arranged.ensures;
+  },
+)

@@ -2,7 +2,6 @@
 use mathlib.Core.Path.{refl}
 use Rattle.lineage.specs.Exports.{Replied}
 use Rattle.lineage.proofs.Exporting.{written_short}
-use borrow.Author.Rules.{rules}
 use Rattle.lineage.proofs.lineage_write_tree.Goals as goal
 
 pub returns-then-reply-ne3 : goal.returns-then-reply-ne3
@@ -14,12 +13,11 @@ put_saved-requires c = (c.if-reply-ne3.false, written_short _ _ _ _ c.write_tree
 
 pub returns : goal.returns
 unfolding Replied
-returns c =
-    (
-      c.if-reply-ne3.false,
-      record {
-        answer = c.write_tree-answer.result;
-        kept = c.write_tree-answer.ensures;
-        written = c.put_saved.ensures;
-      },
-    )
+returns c = (
+  c.if-reply-ne3.false,
+  record {
+    answer = c.write_tree-answer.result;
+    kept = c.write_tree-answer.ensures;
+    written = c.put_saved.ensures;
+  },
+)

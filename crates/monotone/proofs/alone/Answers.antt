@@ -1,6 +1,5 @@
 -- A part that is not zero makes a vector that is not; its bits say so, since it is small.
 use mathlib.Core.Path.{refl}
-use borrow.Author.Rules.{rules}
 use Rattle.monotone.specs.Cones.{none, one}
 use Rattle.monotone.proofs.Wide.{zero_bits, bits_zero}
 use Rattle.monotone.proofs.alone.Goals as goal

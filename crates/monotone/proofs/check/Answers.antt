@@ -1,6 +1,5 @@
 -- The check at document 01's limits.
 use native.Mathlib.Omega.{arith}
-use borrow.Author.Rules.{rules}
 use Rattle.monotone.proofs.check.Goals as goal
 
 pub check_within-requires : goal.check_within-requires

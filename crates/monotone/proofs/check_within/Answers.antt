@@ -1,13 +1,7 @@
 -- Each answer is a case of the definition: a refusal of the table, one of a place, or what the pairs say.
-use mathlib.Core.List.{[], ◌∷◌}
-use mathlib.Core.Path.{◌≡◌, sym, subst, ◌∙◌}
+use mathlib.Core.Path.{sym, ◌∙◌}
 use native.Mathlib.Omega.{arith}
-use lib.ListN.{length}
 use borrow.Author.Rules.{rules}
-use Rattle.table.specs.declared.Validity.{Validity}
-use Rattle.table.specs.declared.Validity.TheVariants.{Accepted}
-use Rattle.table.specs.Table.{all_long}
-use Rattle.table.specs.Parts.{Validated}
 use Rattle.monotone.proofs.Judging.{checked_table, checked_far, checked-found, judged, x_long, y_long, few_nodes}
 use Rattle.monotone.proofs.check_within.Goals as goal
 

@@ -1,10 +1,9 @@
 -- The list is cleared, climbed, spread over and turned back; each step says which region it leaves alone.
-use mathlib.Core.List.{List}
 use mathlib.Core.Path.{subst, subst⁻¹, ◌∙◌}
 use Prim.Native.Nat.{ℕ}
 use native.Mathlib.Omega.{arith}
-use Rattle.monotone.specs.Parts.{WithEdges, Reached, ChildrenFirst, ConeKnown, Coned}
-use Rattle.monotone.proofs.Spreading.{Spreading, spreading_start, spreading_reached, spreading_step, coned}
+use Rattle.monotone.specs.Parts.{Reached, ConeKnown}
+use Rattle.monotone.proofs.Spreading.{spreading_start, spreading_reached, spreading_step, coned}
 use Rattle.monotone.proofs.Spreading.{ordered_kept, edges_stay, edges_away}
 use Rattle.monotone.proofs.cones.Goals as goal
 
@@ -21,14 +20,13 @@ loop-j-init c =
     c.requires.1) c.cones_up.ensures.row
 
 pub visit-requires : goal.visit-requires
-visit-requires c =
-    (
-      (edges_stay c.loop-j.invariant.only (edges_away c.cones_up.ensures.away c.cones_up.ensures.only.long (edges_stay c.clear.ensures.1 c.requires.0))),
-      subst⁻¹ (Reached c.args.parent.now c.loop-j.work) c.get-v.ensures.0
-          (spreading_reached c.requires.0.tree c.requires.2 (edges_away c.cones_up.ensures.away c.cones_up.ensures.only.long (edges_stay c.clear.ensures.1 c.requires.0)).edges
-          c.loop-j-test.true
-          c.loop-j.invariant),
-    )
+visit-requires c = (
+  (edges_stay c.loop-j.invariant.only (edges_away c.cones_up.ensures.away c.cones_up.ensures.only.long (edges_stay c.clear.ensures.1 c.requires.0))),
+  subst⁻¹ (Reached c.args.parent.now c.loop-j.work) c.get-v.ensures.0
+      (spreading_reached c.requires.0.tree c.requires.2 (edges_away c.cones_up.ensures.away c.cones_up.ensures.only.long (edges_stay c.clear.ensures.1 c.requires.0)).edges
+      c.loop-j-test.true
+      c.loop-j.invariant),
+)
 
 pub loop-j-preserved : goal.loop-j-preserved
 loop-j-preserved c =

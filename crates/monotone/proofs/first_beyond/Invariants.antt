@@ -2,12 +2,8 @@
 use mathlib.Core.Bool.{false}
 use mathlib.Core.Path.{◌≡◌}
 use Prim.Native.Nat.{ℕ, ◌-◌, ◌≤◌, ◌<◌}
-use native.Mathlib.Omega.{arith}
 use lib.ListN.{length}
-use borrow.Author.Count.{below_more, below_none}
-use Rattle.laws.specs.SearchLaws.{least_is}
 use Rattle.monotone.specs.Monotone.{place_beyond}
-use Rattle.monotone.proofs.Places.{beyond_across, beyond_up, within}
 use Rattle.monotone.proofs.first_beyond.Given as goal
 
 abbrev pub invariant-loop-v : goal.invariant-loop-v

@@ -1,9 +1,7 @@
 -- Each return is a case of `Growth`: a shut cone stays shut, the first edge is a cone of its own, else the move says.
 use mathlib.Core.Path.{subst}
-use Prim.Native.Nat.{ℕ, ◌/◌, ◌%◌}
-use borrow.Author.Rules.{rules}
 use Rattle.monotone.specs.Plane.{Vec}
-use Rattle.monotone.specs.Cones.{edge_at, RightMove, ConePair, Alone}
+use Rattle.monotone.specs.Cones.{Alone}
 use Rattle.monotone.proofs.Growth.{grow_shut, grow_first, grow_keep, grow_high, grow_low, grow_never, moved_to}
 use Rattle.monotone.proofs.grow.Goals as goal
 

@@ -1,10 +1,9 @@
 -- The parts of the nodes below z are written, and nothing outside the region has changed.
-use mathlib.Core.Path.{◌≡◌, ap, ap₂, ◌∙◌}
-use Prim.Native.Nat.{ℕ, ◌+◌, ◌-◌, ◌≤◌, ◌<◌}
+use mathlib.Core.Path.{ap, ap₂, ◌∙◌}
+use Prim.Native.Nat.{ℕ, ◌+◌, ◌-◌, ◌≤◌}
 use native.Mathlib.Omega.{arith}
-use lib.ListN.{length, get_or, set}
-use Rattle.table.specs.Table.{parent}
-use Rattle.monotone.proofs.Places.{Offsetting, offsetting_start, offsetting_step, offsetting_end}
+use lib.ListN.{get_or, set}
+use Rattle.monotone.proofs.Places.{offsetting_start, offsetting_step, offsetting_end}
 use Rattle.monotone.proofs.offsets.Goals as goal
 
 pub loop-z-init : goal.loop-z-init
@@ -16,11 +15,10 @@ get-above-requires c =
     omega arith
 
 pub put-requires : goal.put-requires
-put-requires c =
-    (
-      omega arith,
-      omega (arith, (let below_near : c.get-below.result ≤ 2147483647 = omega (arith, c.get-below.ensures.0, c.requires.0.within c.loop-z.z (c.loop-z-test.true)) in below_near)),
-    )
+put-requires c = (
+  omega arith,
+  omega (arith, (let below_near : c.get-below.result ≤ 2147483647 = omega (arith, c.get-below.ensures.0, c.requires.0.within c.loop-z.z (c.loop-z-test.true)) in below_near)),
+)
 
 pub loop-z-preserved : goal.loop-z-preserved
 loop-z-preserved c =

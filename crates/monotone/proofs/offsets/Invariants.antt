@@ -1,10 +1,7 @@
 -- The parts of the nodes below z are written, and nothing outside the region has changed.
-use mathlib.Core.Path.{◌≡◌, ap, ap₂, ◌∙◌}
-use Prim.Native.Nat.{ℕ, ◌+◌, ◌-◌, ◌≤◌, ◌<◌}
-use native.Mathlib.Omega.{arith}
-use lib.ListN.{length, get_or, set}
-use Rattle.table.specs.Table.{parent}
-use Rattle.monotone.proofs.Places.{Offsetting, offsetting_start, offsetting_step, offsetting_end}
+use Prim.Native.Nat.{◌-◌}
+use lib.ListN.{length}
+use Rattle.monotone.proofs.Places.{Offsetting}
 use Rattle.monotone.proofs.offsets.Given as goal
 
 abbrev pub invariant-loop-z : goal.invariant-loop-z

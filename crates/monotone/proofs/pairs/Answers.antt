@@ -1,12 +1,10 @@
 -- Every pair before the loops' place has a direction; the first cone that is 2 is that of the first pair that has none.
 use mathlib.Core.Path.{refl, sym, subst⁻¹, ◌∙◌}
-use Prim.Native.Nat.{◌-◌, ◌<◌}
 use native.Mathlib.Omega.{arith}
-use lib.ListN.{length}
-use Rattle.laws.specs.Regions.{Only, only_refl, only_trans}
+use Rattle.laws.specs.Regions.{only_refl, only_trans}
 use Rattle.monotone.specs.Parts.{Found}
 use Rattle.monotone.proofs.Spreading.{edges_stay, ordered_kept}
-use Rattle.monotone.proofs.Deciding.{OverRows, OverRow, passed_none, clear_more, passed_row, first_turn}
+use Rattle.monotone.proofs.Deciding.{passed_none, clear_more, passed_row, first_turn}
 use Rattle.monotone.proofs.Deciding.{all_passed}
 use Rattle.monotone.proofs.pairs.Goals as goal
 
@@ -14,12 +12,11 @@ pub pairs-init : goal.pairs-init
 pairs-init c = record { most = omega arith; only = only_refl 0 _ _; passed = passed_none; still = refl }
 
 pub cones-requires : goal.cones-requires
-cones-requires c =
-    (
-      edges_stay c.pairs.invariant.only c.requires.0,
-      ordered_kept (λ j h. c.pairs.invariant.only.above j (omega arith)) c.requires.1,
-      c.pairs-test.true,
-    )
+cones-requires c = (
+  edges_stay c.pairs.invariant.only c.requires.0,
+  ordered_kept (λ j h. c.pairs.invariant.only.above j (omega arith)) c.requires.1,
+  c.pairs-test.true,
+)
 
 pub loop-v-init : goal.loop-v-init
 loop-v-init c =

@@ -1,13 +1,7 @@
 -- Every pair before the loops' place has a direction; the first cone that is 2 is that of the first pair that has none.
-use mathlib.Core.Path.{refl, sym, subst⁻¹, ◌∙◌}
-use Prim.Native.Nat.{◌-◌, ◌<◌}
-use native.Mathlib.Omega.{arith}
+use Prim.Native.Nat.{◌-◌}
 use lib.ListN.{length}
-use Rattle.laws.specs.Regions.{Only, only_refl, only_trans}
-use Rattle.monotone.specs.Parts.{Found}
-use Rattle.monotone.proofs.Spreading.{edges_stay, ordered_kept}
-use Rattle.monotone.proofs.Deciding.{OverRows, OverRow, passed_none, clear_more, passed_row, first_turn}
-use Rattle.monotone.proofs.Deciding.{all_passed}
+use Rattle.monotone.proofs.Deciding.{OverRows, OverRow}
 use Rattle.monotone.proofs.pairs.Given as goal
 
 abbrev pub invariant-loop-v : goal.invariant-loop-v

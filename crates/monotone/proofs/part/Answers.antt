@@ -3,7 +3,6 @@ use mathlib.Core.Path.{◌∙◌, ap}
 use lib.IntN.{pos, ◌-ℤ◌}
 use Prim.Native.Nat.{ℕ, ◌≤◌}
 use native.Mathlib.Omega.{arith}
-use borrow.Author.Rules.{rules}
 use Rattle.monotone.proofs.Wide.{part_fits, part_is, part_small}
 use Rattle.monotone.proofs.part.Goals as goal
 
@@ -12,8 +11,7 @@ overflow_sub-result c = part_fits c.get-number.result (omega arith) c.get-number
 
 pub returns : goal.returns
 returns c =
-    let some : 1 ≤ c.get-number.result = omega arith in
-    (
+    let some : 1 ≤ c.get-number.result = omega arith in (
       part_is c.get-number.result some c.get-number.ensures.1 ∙ ap (λ (n : ℕ). pos n -ℤ pos 2147483648) c.get-number.ensures.0,
       part_small c.get-number.result some c.get-number.ensures.1,
     )

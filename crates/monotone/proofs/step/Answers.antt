@@ -1,9 +1,6 @@
 -- Each return is a case of `Plane`, with the signs that led there.
-use mathlib.Core.Path.{◌≡◌}
-use lib.IntN.{pos}
-use borrow.Author.Rules.{rules}
 use Rattle.laws.specs.Signs.{≤≥}
-use Rattle.monotone.specs.Plane.{Vec, cross, high, low, keep_high, keep_low, keep_along, against_low}
+use Rattle.monotone.specs.Plane.{high, low, keep_high, keep_low, keep_along, against_low}
 use Rattle.monotone.specs.Plane.{against_high, against_along}
 use Rattle.monotone.specs.Cones.{vec}
 use Rattle.monotone.proofs.Wide.{above_yes, above_no, below_yes, below_no}
@@ -55,7 +52,7 @@ pub returns-then-dot_product-gt0 : goal.returns-then-dot_product-gt0
 returns-then-dot_product-gt0 c =
     record {
       after = λ us cone. keep_along (vec c.args.u) cone (≤≥ _ (above_no c.cross_product-p.ensures c.cross_product-p.type_inv c.if-p-gt0.false)
-    (below_no c.cross_product-p.ensures c.cross_product-p.type_inv c.if-p-lt0-2.false)) (≤≥ _ (above_no c.cross_product-q.ensures c.cross_product-q.type_inv c.if-q-gt0.false) (below_no c.cross_product-q.ensures c.cross_product-q.type_inv c.if-q-lt0-2.false))
+          (below_no c.cross_product-p.ensures c.cross_product-p.type_inv c.if-p-lt0-2.false)) (≤≥ _ (above_no c.cross_product-q.ensures c.cross_product-q.type_inv c.if-q-gt0.false) (below_no c.cross_product-q.ensures c.cross_product-q.type_inv c.if-q-lt0-2.false))
           (above_yes c.dot_product.ensures c.dot_product.type_inv c.if-dot_product-gt0.true);
     }
 
@@ -63,6 +60,6 @@ pub returns : goal.returns
 returns c =
     record {
       after = λ us cone. against_along (vec c.args.u) cone (≤≥ _ (above_no c.cross_product-p.ensures c.cross_product-p.type_inv c.if-p-gt0.false)
-    (below_no c.cross_product-p.ensures c.cross_product-p.type_inv c.if-p-lt0-2.false)) (≤≥ _ (above_no c.cross_product-q.ensures c.cross_product-q.type_inv c.if-q-gt0.false) (below_no c.cross_product-q.ensures c.cross_product-q.type_inv c.if-q-lt0-2.false))
+          (below_no c.cross_product-p.ensures c.cross_product-p.type_inv c.if-p-lt0-2.false)) (≤≥ _ (above_no c.cross_product-q.ensures c.cross_product-q.type_inv c.if-q-gt0.false) (below_no c.cross_product-q.ensures c.cross_product-q.type_inv c.if-q-lt0-2.false))
           (above_no c.dot_product.ensures c.dot_product.type_inv c.if-dot_product-gt0.false);
     }

@@ -1,11 +1,9 @@
 -- The edges below z are turned and no other; the root, where the loop ends, has no edge.
-use mathlib.Core.Path.{ap, subst⁻¹}
-use Prim.Native.Nat.{ℕ, ◌*◌}
-use native.Mathlib.Omega.{arith}
+use Prim.Native.Nat.{◌*◌}
 use lib.ListN.{length}
-use Rattle.laws.specs.Regions.{Only, only_refl, only_trans}
-use Rattle.table.specs.Ancestry.{depth, depth-parent}
-use Rattle.monotone.proofs.Turning.{Turning, turning_start, turning_edges, turning_step, turning_end, edge_only}
+use Rattle.laws.specs.Regions.{Only}
+use Rattle.table.specs.Ancestry.{depth}
+use Rattle.monotone.proofs.Turning.{Turning}
 use Rattle.monotone.proofs.turn.Given as goal
 
 abbrev pub invariant-loop-z : goal.invariant-loop-z

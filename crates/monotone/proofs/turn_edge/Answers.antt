@@ -1,5 +1,4 @@
 -- Both parts are turned, one store after the other.
-use borrow.Author.Rules.{rules}
 use Rattle.monotone.proofs.Turning.{edge_across, edge_up, edge_turned}
 use Rattle.monotone.proofs.turn_edge.Goals as goal
 

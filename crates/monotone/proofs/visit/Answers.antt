@@ -3,7 +3,6 @@ use mathlib.Core.Path.{refl, sym, ap, subst, subst⁻¹, ◌∙◌}
 use Prim.Native.Nat.{ℕ}
 use native.Mathlib.Omega.{arith}
 use lib.ListN.{length, get_or}
-use borrow.Author.Rules.{rules}
 use Rattle.monotone.specs.Cones.{edge_at, Formed, Grown}
 use Rattle.monotone.specs.Parts.{known, grown}
 use Rattle.monotone.proofs.visit.Goals as goal

@@ -1,8 +1,7 @@
 -- A refused table leaves the lists; an accepted one is numbered, and its numbers are copied out.
 use native.Mathlib.Omega.{arith}
-use borrow.Author.Rules.{rules}
-use Rattle.numbers.specs.PostNumbers.{Spans, spans}
-use Rattle.numbers.proofs.Spanning.{Room, room, refused, copied}
+use Rattle.numbers.specs.PostNumbers.{spans}
+use Rattle.numbers.proofs.Spanning.{room, refused, copied}
 use Rattle.numbers.proofs.post_numbers.Goals as goal
 
 pub copy_out-requires : goal.copy_out-requires

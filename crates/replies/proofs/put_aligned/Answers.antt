@@ -1,7 +1,6 @@
 -- Arm by arm, the three numbers of a count, or of none.
 use mathlib.Core.Path.{sym, ap, ◌∙◌}
 use Rattle.replies.specs.Replies.{aligned_reply}
-use borrow.Author.Rules.{rules}
 use Rattle.replies.proofs.put_aligned.Goals as goal
 
 pub returns-in-Count : goal.returns-in-Count

@@ -1,7 +1,6 @@
 -- A signed number of 32 bits keeps its value in 64.
 use mathlib.Core.Path.{refl, ◌∙◌}
 use Rattle.replies.proofs.Numbers.{alike, wider, wide}
-use borrow.Author.Rules.{rules}
 use Rattle.replies.proofs.put_along.Goals as goal
 
 pub overflow_cast-d : goal.overflow_cast-d

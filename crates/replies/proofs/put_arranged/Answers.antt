@@ -1,7 +1,6 @@
 -- Arm by arm, the four numbers of a frame or a refusal.
 use mathlib.Core.Path.{sym, ap, subst, ◌∙◌}
 use Rattle.replies.specs.Replies.{arranged_reply, Near}
-use borrow.Author.Rules.{rules}
 use Rattle.replies.proofs.put_arranged.Goals as goal
 
 pub put_four-requires-in-Refused : goal.put_four-requires-in-Refused

@@ -1,7 +1,6 @@
 -- Arm by arm, the three numbers of a number of nodes or a refusal.
 use mathlib.Core.Path.{sym, ap, ◌∙◌}
 use Rattle.replies.specs.Replies.{counted_reply}
-use borrow.Author.Rules.{rules}
 use Rattle.replies.proofs.put_counted.Goals as goal
 
 pub returns-in-Nodes : goal.returns-in-Nodes

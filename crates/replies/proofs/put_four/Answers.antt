@@ -2,7 +2,6 @@
 use mathlib.Core.Path.{◌∙◌}
 use native.Mathlib.Omega.{arith}
 use Rattle.replies.proofs.Numbers.{all_set_4, alike_4, natural}
-use borrow.Author.Rules.{rules}
 use Rattle.replies.proofs.put_four.Goals as goal
 
 pub returns : goal.returns

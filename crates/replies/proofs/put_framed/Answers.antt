@@ -1,7 +1,6 @@
 -- Arm by arm, the three numbers of a frame or a refusal.
 use mathlib.Core.Path.{sym, ap, ◌∙◌}
 use Rattle.replies.specs.Replies.{framed_reply}
-use borrow.Author.Rules.{rules}
 use Rattle.replies.proofs.put_framed.Goals as goal
 
 pub returns-in-Frame : goal.returns-in-Frame

@@ -2,7 +2,6 @@
 use mathlib.Core.Path.{refl, sym, ap, ◌∙◌}
 use Rattle.replies.proofs.Numbers.{alike, back32}
 use Rattle.replies.specs.Replies.{heading_reply}
-use borrow.Author.Rules.{rules}
 use Rattle.replies.proofs.put_heading.Goals as goal
 
 pub returns-in-Along : goal.returns-in-Along

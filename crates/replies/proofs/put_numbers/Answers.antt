@@ -2,7 +2,6 @@
 use native.Mathlib.Omega.{arith}
 use mathlib.Core.Path.{◌∙◌}
 use Rattle.replies.proofs.Numbers.{alike, natural}
-use borrow.Author.Rules.{rules}
 use Rattle.replies.proofs.put_numbers.Goals as goal
 
 pub returns : goal.returns

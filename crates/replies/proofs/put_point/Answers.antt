@@ -1,6 +1,5 @@
 -- Each position is set in turn.
 use Rattle.replies.proofs.Numbers.{both-set}
-use borrow.Author.Rules.{rules}
 use Rattle.replies.proofs.put_point.Goals as goal
 
 pub returns : goal.returns

@@ -1,7 +1,6 @@
 -- Arm by arm, the three numbers of a file written or a refusal.
 use mathlib.Core.Path.{sym, ap, subst, ◌∙◌}
 use Rattle.replies.specs.Replies.{saved_reply, Short}
-use borrow.Author.Rules.{rules}
 use Rattle.replies.proofs.put_saved.Goals as goal
 
 pub overflow_cast-bytes : goal.overflow_cast-bytes

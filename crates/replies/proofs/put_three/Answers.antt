@@ -1,7 +1,6 @@
 -- Each number is set in turn, and read back from its bits.
 use mathlib.Core.Path.{◌∙◌}
 use Rattle.replies.proofs.Numbers.{all_set, alike, back}
-use borrow.Author.Rules.{rules}
 use Rattle.replies.proofs.put_three.Goals as goal
 
 pub returns : goal.returns

@@ -1,7 +1,6 @@
 -- Arm by arm, the three numbers of a verdict.
 use mathlib.Core.Path.{sym, ap, ◌∙◌}
 use Rattle.replies.specs.Replies.{verdict_reply}
-use borrow.Author.Rules.{rules}
 use Rattle.replies.proofs.put_verdict.Goals as goal
 
 pub returns-in-Monotone : goal.returns-in-Monotone

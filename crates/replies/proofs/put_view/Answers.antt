@@ -2,7 +2,6 @@
 use mathlib.Core.Path.{refl, sym, ap, ◌∙◌}
 use Rattle.replies.specs.Replies.{view_reply}
 use Rattle.replies.proofs.Numbers.{both_written}
-use borrow.Author.Rules.{rules}
 use Rattle.replies.proofs.put_view.Goals as goal
 
 pub returns-in-Shown : goal.returns-in-Shown

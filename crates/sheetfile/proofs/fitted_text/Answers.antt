@@ -4,7 +4,6 @@ use Rattle.text.specs.TextLaws.{appended_is}
 use Rattle.sheetfile.specs.SheetFileLaws.{refused_text, taken}
 use Rattle.sheetfile.proofs.Showing.{drawn_fresh, times_long, held_long, both_lines, both_shown}
 use Rattle.sheetfile.proofs.Showing.{at_limits}
-use borrow.Author.Rules.{rules}
 use Rattle.sheetfile.proofs.fitted_text.Goals as goal
 
 pub put_sheet-requires : goal.put_sheet-requires

@@ -1,7 +1,6 @@
 -- By the length alone.
 use native.Mathlib.Omega.{arith}
 use Rattle.sheetfile.specs.SheetFile.{lots_in}
-use borrow.Author.Rules.{rules}
 use Rattle.sheetfile.proofs.lots_in.Goals as goal
 
 pub returns-then-bytes-lt4 : goal.returns-then-bytes-lt4

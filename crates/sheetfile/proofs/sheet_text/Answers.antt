@@ -1,6 +1,5 @@
 -- The lists are cut to the lots that the file can hold.
 use Rattle.sheetfile.proofs.Cutting.{cut_whole, times_four, fitting}
-use borrow.Author.Rules.{rules}
 use Rattle.sheetfile.proofs.sheet_text.Goals as goal
 
 pub slice_bounds-fitted_text-end-2 : goal.slice_bounds-fitted_text-end-2

@@ -1,7 +1,6 @@
 -- The work list holds v's post number, and the rule's slope at that number is the edge's.
 use mathlib.Core.Path.{◌∙◌}
 use native.Mathlib.Omega.{arith}
-use borrow.Author.Rules.{rules}
 use Rattle.table.specs.Numbering.{edge_number}
 use Rattle.slopes.specs.SlopeLaws.{edge_is}
 use Rattle.slopes.proofs.edge_slope.Goals as goal

@@ -1,5 +1,4 @@
 -- `slopes::levels_for` meets its contract: n - 1 has as many bits as there are levels.
-use borrow.Author.Rules.{rules}
 use mathlib.Core.Path.{sym}
 use lib.Count.{leading_le}
 use Rattle.slopes.specs.SlopeLaws.{levels_for_leading}

@@ -1,6 +1,5 @@
 -- `slopes::slope_at` meets its contract: the steep slope as it is defined, the balanced one in as many levels as n
 -- nodes need.
-use borrow.Author.Rules.{rules}
 use mathlib.Core.Path.{sym, ap, ◌∙◌}
 use Prim.Native.Nat.{ℕ}
 use native.Mathlib.Nat.{lt_of_lt_of_le}

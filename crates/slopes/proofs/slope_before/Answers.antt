@@ -1,6 +1,5 @@
 -- `slopes::slope_before` meets its contract: the steep slope as it is defined; of a balanced one the two neighbours sum
 -- to a multiple.
-use borrow.Author.Rules.{rules}
 use Rattle.slopes.specs.Neighbours.{steep-step, fits_across, fits_up, balanced-step}
 use Rattle.slopes.proofs.slope_before.Goals as goal
 

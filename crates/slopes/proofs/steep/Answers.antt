@@ -1,6 +1,5 @@
 -- Across 1, up j.
 use mathlib.Core.Path.{refl}
-use borrow.Author.Rules.{rules}
 use Rattle.slopes.proofs.steep.Goals as goal
 
 pub returns : goal.returns

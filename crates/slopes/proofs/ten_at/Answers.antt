@@ -1,6 +1,5 @@
 -- The position's row, in it the number that holds the slope, and in that its two bytes.
 use borrow.Author.Rules.{rules}
-use native.Mathlib.Omega.{arith}
 use Rattle.slopes.specs.TenLaws.{row_slope}
 use Rattle.slopes.proofs.ten_at.Goals as goal
 

@@ -1,8 +1,5 @@
 -- The descent finds the slope, and its level is k less the zeros that end the position, which are fewer than k.
-use borrow.Author.Rules.{rules}
-use Prim.Native.Nat.{◌<◌}
 use native.Mathlib.Omega.{arith}
-use lib.Count.{count_trailing_zeros}
 use Rattle.slopes.specs.Descent.{zeros_below, position_level}
 use Rattle.slopes.proofs.walk_to.Goals as goal
 

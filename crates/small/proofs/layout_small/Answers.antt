@@ -1,6 +1,5 @@
 -- At the small limits.
 use native.Mathlib.Omega.{arith}
-use borrow.Author.Rules.{rules}
 use Rattle.drawing.specs.FreshLaws.{small_roomy}
 use Rattle.small.proofs.layout_small.Goals as goal
 

@@ -1,6 +1,5 @@
 -- At the small limits.
 use native.Mathlib.Omega.{arith}
-use borrow.Author.Rules.{rules}
 use Rattle.small.proofs.shorten_small.Goals as goal
 
 pub returns : goal.returns

@@ -1,5 +1,4 @@
 -- Refusals 1 to 8, then 9 and 10.
-use borrow.Author.Rules.{rules}
 use Rattle.stretching.proofs.Examining.{examining_sheet, examining_edge}
 use Rattle.stretching.proofs.examine.Goals as goal
 

@@ -1,5 +1,4 @@
 -- Refusals 1 to 8, then 9, 10 and 22.
-use borrow.Author.Rules.{rules}
 use Rattle.stretching.proofs.Examining.{unheld_sheet, unheld_free}
 use Rattle.stretching.proofs.examine_free.Goals as goal
 

@@ -1,5 +1,4 @@
 -- Refusals 9, 10 and 22, then the limit, then the longer drawing.
-use borrow.Author.Rules.{rules}
 use Rattle.stretching.proofs.Outcomes.{examined_of, lengthened_refused, lengthened_beyond, lengthened}
 use Rattle.stretching.proofs.Outcomes.{can_lengthen}
 use Rattle.stretching.proofs.lengthen_edge.Goals as goal
@@ -20,12 +19,11 @@ returns-then-far c =
     c.too_far-far.ensures c.if-far.true
 
 pub stretch-requires : goal.stretch-requires
-stretch-requires c =
-    (
-      can_lengthen _ c.requires.1 _ c.test_free-free.ensures _ c.in-Accepted.is
-          c.too_far-far.ensures c.if-far.false c.requires.0,
-      c.edge_slope-slope.ensures,
-    )
+stretch-requires c = (
+  can_lengthen _ c.requires.1 _ c.test_free-free.ensures _ c.in-Accepted.is
+      c.too_far-far.ensures c.if-far.false c.requires.0,
+  c.edge_slope-slope.ensures,
+)
 
 pub returns-in-Refused : goal.returns-in-Refused
 returns-in-Refused c = lengthened_refused _ c.requires.1 _ c.test_free-free.ensures _ c.in-Refused.is

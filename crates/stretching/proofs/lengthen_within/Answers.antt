@@ -1,5 +1,4 @@
 -- Refusals 1 to 8, then lengthen on an accepted sheet, then its frame.
-use borrow.Author.Rules.{rules}
 use mathlib.Core.Path.{refl}
 use Rattle.drawing.specs.Parts.{framable}
 use Rattle.stretching.specs.Parts.{opened, opened_after}

@@ -1,8 +1,6 @@
 -- The places of the subtree up to number j are moved.
 use Prim.Native.Nat.{◌-◌}
-use native.Mathlib.Omega.{arith}
-use Rattle.stretching.proofs.Subtrees.{Moving, first_some, walk_node, moving_start, moving_can, moving_fits}
-use Rattle.stretching.proofs.Subtrees.{moving_step, moving_end}
+use Rattle.stretching.proofs.Subtrees.{Moving}
 use Rattle.stretching.proofs.move_subtree.Given as goal
 
 abbrev pub invariant-loop-j : goal.invariant-loop-j

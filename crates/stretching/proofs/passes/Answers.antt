@@ -1,7 +1,6 @@
 -- The places of the subtree up to number j are within the limit.
-use Prim.Native.Nat.{◌-◌}
 use native.Mathlib.Omega.{arith}
-use Rattle.stretching.proofs.Subtrees.{Clear, first_some, walk_node, clear_start, clear_step, clear_end}
+use Rattle.stretching.proofs.Subtrees.{first_some, walk_node, clear_start, clear_step, clear_end}
 use Rattle.stretching.proofs.Subtrees.{passes_yes}
 use Rattle.stretching.proofs.passes.Goals as goal
 

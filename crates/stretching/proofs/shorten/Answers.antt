@@ -1,6 +1,5 @@
 -- At the large limits.
 use native.Mathlib.Omega.{arith}
-use borrow.Author.Rules.{rules}
 use Rattle.stretching.proofs.shorten.Goals as goal
 
 pub returns : goal.returns

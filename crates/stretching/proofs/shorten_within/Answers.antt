@@ -1,6 +1,5 @@
 -- Refusals 1 to 10 and 22, then 12, then the shorter drawing.
 use native.Mathlib.Omega.{arith}
-use borrow.Author.Rules.{rules}
 use Rattle.drawing.specs.Parts.{framable}
 use Rattle.stretching.proofs.Outcomes.{free_of, shortened_refused, shortened_12, can_shorten}
 use Rattle.stretching.proofs.Outcomes.{new_shorter, shortened}
@@ -24,12 +23,11 @@ edge_slope-slope-requires c =
     ((c.examine_free-verdict.ensures.left c.in-Accepted.is).sized.numbered, x.above, x.inside)
 
 pub stretch-requires : goal.stretch-requires
-stretch-requires c =
-    (
-      can_shorten _ _ c.examine_free-verdict.ensures _ c.in-Accepted.is
-          c.get.ensures.0 c.if-get-count.false,
-      c.edge_slope-slope.ensures,
-    )
+stretch-requires c = (
+  can_shorten _ _ c.examine_free-verdict.ensures _ c.in-Accepted.is
+      c.get.ensures.0 c.if-get-count.false,
+  c.edge_slope-slope.ensures,
+)
 
 pub frame_of-requires : goal.frame_of-requires
 frame_of-requires c =

@@ -1,6 +1,5 @@
 -- Both coordinates of the subtree are moved by the count times the slope of v's edge, and the count goes to its times.
 use native.Mathlib.Omega.{arith}
-use borrow.Author.Rules.{rules}
 use Rattle.slopes.specs.Slopes.{across_of, up_of}
 use Rattle.stretching.proofs.Outcomes.{movable_at, times_fit, stretched_is}
 use Rattle.stretching.proofs.stretch.Goals as goal

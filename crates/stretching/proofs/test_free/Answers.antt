@@ -1,5 +1,4 @@
 -- 9 and 10, then 22.
-use borrow.Author.Rules.{rules}
 use Rattle.stretching.proofs.Examining.{free-edge, has_edge, free_22, free_all}
 use Rattle.stretching.proofs.test_free.Goals as goal
 

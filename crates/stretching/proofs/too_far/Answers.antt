@@ -1,5 +1,4 @@
 -- Either coordinate of the subtree, or none of both.
-use borrow.Author.Rules.{rules}
 use Rattle.drawing.specs.Drawing.{lent}
 use Rattle.stretching.proofs.Outcomes.{too_far_x, too_far_else}
 use Rattle.stretching.proofs.too_far.Goals as goal

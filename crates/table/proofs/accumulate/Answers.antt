@@ -8,16 +8,15 @@ pub loop-p-init : goal.loop-p-init
 loop-p-init c = accumulating_start c.requires.1
 
 pub put-requires : goal.put-requires
-put-requires c =
-    (
-      accumulating_in c.requires.0 c.loop-p.invariant c.loop-p-test.true,
-      omega (
-        arith,
-        accumulating_few c.requires.0 c.loop-p.invariant c.loop-p-test.true
-            c.get-s.ensures.0 c.get-k.ensures.0,
-        c.requires.0.few,
-      ),
-    )
+put-requires c = (
+  accumulating_in c.requires.0 c.loop-p.invariant c.loop-p-test.true,
+  omega (
+    arith,
+    accumulating_few c.requires.0 c.loop-p.invariant c.loop-p-test.true
+        c.get-s.ensures.0 c.get-k.ensures.0,
+    c.requires.0.few,
+  ),
+)
 
 pub loop-p-preserved : goal.loop-p-preserved
 loop-p-preserved c =

@@ -15,8 +15,7 @@ loop-i-preserved c =
     (c.put.ensures ∙ ap (λ (k : ℕ). set c.loop-i.list k c.get-w.result) (omega arith))
 
 pub returns : goal.returns
-returns c =
-    (
+returns c = (
   record {
     same = λ k l. sym
         (ap (λ (j : ℕ). get_or c.loop-i.list j 0) (zero_plus k)

@@ -10,12 +10,11 @@ pub steps-k-requires : goal.steps-k-requires
 steps-k-requires c = (c.loop-v.invariant.scratch, c.loop-v-test.true)
 
 pub returns-then-n-k : goal.returns-then-n-k
-returns-then-n-k c =
-    (
-      drifting_found c.loop-v.invariant c.loop-v-test.true c.steps-k.ensures
-          c.if-n-k.true,
-      c.loop-v.invariant.kept,
-    )
+returns-then-n-k c = (
+  drifting_found c.loop-v.invariant c.loop-v-test.true c.steps-k.ensures
+      c.if-n-k.true,
+  c.loop-v.invariant.kept,
+)
 
 pub mark-requires : goal.mark-requires
 mark-requires c =

@@ -13,13 +13,12 @@ get-requires c =
     c.get-p.ensures.0 c.get-r.ensures.0
 
 pub put-requires : goal.put-requires
-put-requires c =
-    (
-      slot_in c.loop-v.invariant.0 c.loop-v-test.true
-          c.get-p.ensures.0
-          c.get-r.ensures.0 c.get.ensures.0,
-      omega arith,
-    )
+put-requires c = (
+  slot_in c.loop-v.invariant.0 c.loop-v-test.true
+      c.get-p.ensures.0
+      c.get-r.ensures.0 c.get.ensures.0,
+  omega arith,
+)
 
 pub loop-v-preserved : goal.loop-v-preserved
 loop-v-preserved c =

@@ -7,11 +7,10 @@ pub loop-j-init : goal.loop-j-init
 loop-j-init c = inverting_start c.requires
 
 pub put-requires : goal.put-requires
-put-requires c =
-    (
-      inverting_in c.requires c.loop-j.invariant c.loop-j-test.true c.get-v.ensures.0,
-      omega arith,
-    )
+put-requires c = (
+  inverting_in c.requires c.loop-j.invariant c.loop-j-test.true c.get-v.ensures.0,
+  omega arith,
+)
 
 pub loop-j-preserved : goal.loop-j-preserved
 loop-j-preserved c =

@@ -34,14 +34,13 @@ get-u-requires c =
     c.get-2.ensures.0 c.if-get-s.false
 
 pub leaf-requires : goal.leaf-requires
-leaf-requires c =
-    (
-      c.requires.0,
-      sibling_inside c.requires.0 c.requires.1 c.requires.2
-          c.get-p.ensures.0 c.get-r.ensures.0
-          c.get.ensures.0 c.get-2.ensures.0 c.if-get-s.false
-          c.get-u.ensures.0,
-    )
+leaf-requires c = (
+  c.requires.0,
+  sibling_inside c.requires.0 c.requires.1 c.requires.2
+      c.get-p.ensures.0 c.get-r.ensures.0
+      c.get.ensures.0 c.get-2.ensures.0 c.if-get-s.false
+      c.get-u.ensures.0,
+)
 
 pub returns : goal.returns
 returns c =

@@ -12,13 +12,12 @@ pub get-e-requires : goal.get-e-requires
 get-e-requires c = omega (arith, c.requires.0.scratch.nodes.inside _ c.requires.1, c.requires.0.scratch.room)
 
 pub returns-then-e-s : goal.returns-then-e-s
-returns-then-e-s c =
-    (
-      seating_none c.requires.0 c.requires.1
-          (turn c.get-p.ensures.0 c.get-r.ensures.0 c.get.ensures.0
-          c.get-e.ensures.0) c.if-e-s.true,
-      only_refl _ _ _,
-    )
+returns-then-e-s c = (
+  seating_none c.requires.0 c.requires.1
+      (turn c.get-p.ensures.0 c.get-r.ensures.0 c.get.ensures.0
+      c.get-e.ensures.0) c.if-e-s.true,
+  only_refl _ _ _,
+)
 
 pub get-o-requires : goal.get-o-requires
 get-o-requires c =
@@ -27,19 +26,18 @@ get-o-requires c =
     c.get-e.ensures.0) c.if-e-s.false
 
 pub put-requires : goal.put-requires
-put-requires c =
-    (
-      seat_room {R = c.args.rank.now} c.requires.0.scratch c.requires.0.started
-          c.requires.1 (turn c.get-p.ensures.0 c.get-r.ensures.0 c.get.ensures.0
-          c.get-e.ensures.0) c.if-e-s.false,
-      omega (
-        arith,
-        seating_few c.requires.0 c.requires.1
-            (turn c.get-p.ensures.0 c.get-r.ensures.0 c.get.ensures.0
-            c.get-e.ensures.0) c.if-e-s.false c.get-o.ensures.0,
-        c.requires.0.scratch.few,
-      ),
-    )
+put-requires c = (
+  seat_room {R = c.args.rank.now} c.requires.0.scratch c.requires.0.started
+      c.requires.1 (turn c.get-p.ensures.0 c.get-r.ensures.0 c.get.ensures.0
+      c.get-e.ensures.0) c.if-e-s.false,
+  omega (
+    arith,
+    seating_few c.requires.0 c.requires.1
+        (turn c.get-p.ensures.0 c.get-r.ensures.0 c.get.ensures.0
+        c.get-e.ensures.0) c.if-e-s.false c.get-o.ensures.0,
+    c.requires.0.scratch.few,
+  ),
+)
 
 pub returns : goal.returns
 returns c =

@@ -7,12 +7,11 @@ pub tally-requires : goal.tally-requires
 tally-requires c = (scratch_kept c.requires c.clear.ensures.1.long, c.clear.ensures.0)
 
 pub accumulate-requires : goal.accumulate-requires
-accumulate-requires c =
-    (
-      scratch_kept c.requires (c.tally.ensures.1.long
-          ∙ c.clear.ensures.1.long),
-      c.tally.ensures.0,
-    )
+accumulate-requires c = (
+  scratch_kept c.requires (c.tally.ensures.1.long
+      ∙ c.clear.ensures.1.long),
+  c.tally.ensures.0,
+)
 
 pub returns : goal.returns
 returns c =

@@ -13,17 +13,16 @@ get-k-requires c =
     c.get-p.ensures.0
 
 pub put-requires : goal.put-requires
-put-requires c =
-    (
-      tallying_in c.requires.0 c.loop-v.invariant c.loop-v-test.true
-          c.get-p.ensures.0,
-      omega (
-        arith,
-        tallying_few c.requires.0 c.loop-v.invariant c.loop-v-test.true
-            c.get-p.ensures.0 c.get-k.ensures.0,
-        c.requires.0.few,
-      ),
-    )
+put-requires c = (
+  tallying_in c.requires.0 c.loop-v.invariant c.loop-v-test.true
+      c.get-p.ensures.0,
+  omega (
+    arith,
+    tallying_few c.requires.0 c.loop-v.invariant c.loop-v-test.true
+        c.get-p.ensures.0 c.get-k.ensures.0,
+    c.requires.0.few,
+  ),
+)
 
 pub loop-v-preserved : goal.loop-v-preserved
 loop-v-preserved c =

@@ -8,25 +8,23 @@ pub overflow_add-n : goal.overflow_add-n
 overflow_add-n c = omega (arith, visited_room c.requires.0 c.requires.1 c.requires.2)
 
 pub put-requires : goal.put-requires
-put-requires c =
-    (
-      visited_order c.requires.0 c.requires.1 c.requires.2,
-      omega arith,
-    )
+put-requires c = (
+  visited_order c.requires.0 c.requires.1 c.requires.2,
+  omega arith,
+)
 
 pub overflow_add-c : goal.overflow_add-c
 overflow_add-c c = omega (arith, visited_room c.requires.0 c.requires.1 c.requires.2)
 
 pub put-requires-then-get-s : goal.put-requires-then-get-s
-put-requires-then-get-s c =
-    (
-      omega arith,
-      omega (
-        arith,
-        visited_room c.requires.0 c.requires.1 c.requires.2,
-        c.requires.0.seated.ready.few,
-      ),
-    )
+put-requires-then-get-s c = (
+  omega arith,
+  omega (
+    arith,
+    visited_room c.requires.0 c.requires.1 c.requires.2,
+    c.requires.0.seated.ready.few,
+  ),
+)
 
 pub returns-then-get-s : goal.returns-then-get-s
 returns-then-get-s c =

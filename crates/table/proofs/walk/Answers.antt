@@ -17,19 +17,17 @@ pub visit-requires : goal.visit-requires
 visit-requires c = (c.loop-c.invariant.0.visited, c.loop-c.invariant.0.inside, c.loop-c.invariant.0.number)
 
 pub next-v-requires : goal.next-v-requires
-next-v-requires c =
-    (
-      c.visit.ensures.seated,
-      walking_above c.loop-c.invariant.0 c.loop-c-test.true,
-      c.loop-c.invariant.0.inside,
-    )
+next-v-requires c = (
+  c.visit.ensures.seated,
+  walking_above c.loop-c.invariant.0 c.loop-c-test.true,
+  c.loop-c.invariant.0.inside,
+)
 
 pub loop-c-preserved : goal.loop-c-preserved
-loop-c-preserved c =
-    (
-      walking_step c.loop-c.invariant.0 c.visit.ensures c.next-v.ensures,
-      c.visit.ensures.seated.ready.long ∙ sym c.requires.ready.long,
-    )
+loop-c-preserved c = (
+  walking_step c.loop-c.invariant.0 c.visit.ensures c.next-v.ensures,
+  c.visit.ensures.seated.ready.long ∙ sym c.requires.ready.long,
+)
 
 pub visit-requires-2 : goal.visit-requires-2
 visit-requires-2 c = (c.loop-c.invariant.0.visited, c.loop-c.invariant.0.inside, c.loop-c.invariant.0.number)

@@ -1,10 +1,8 @@
 -- The root, then node by node.
-use mathlib.Core.Path.{◌≡◌, ap, ◌∙◌}
-use Prim.Native.Nat.{◌-◌}
+use mathlib.Core.Path.{ap, ◌∙◌}
 use native.Mathlib.Omega.{arith}
-use lib.ListN.{length}
 use Rattle.tallest.specs.Tallest.{chain_of}
-use Rattle.tallest.proofs.Hanging.{Hanging, root_long, hanging_start, hanging_step, hanging_end}
+use Rattle.tallest.proofs.Hanging.{root_long, hanging_start, hanging_step, hanging_end}
 use Rattle.tallest.proofs.hang_each.Goals as goal
 
 pub loop-v-init : goal.loop-v-init

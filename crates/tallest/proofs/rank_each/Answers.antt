@@ -1,5 +1,4 @@
 -- The whole list is zeroed.
-use borrow.Author.Rules.{rules}
 use Rattle.tallest.proofs.Hanging.{ranks_zeroed}
 use Rattle.tallest.proofs.rank_each.Goals as goal
 

@@ -2,9 +2,7 @@
 use mathlib.Core.Bool.{not}
 use mathlib.Core.Path.{ap}
 use native.Mathlib.Omega.{arith}
-use borrow.Author.Rules.{rules}
-use Rattle.tallest.specs.Tallest.{Table, table_of}
-use Rattle.tallest.proofs.Answers.{no_nodes, too_many, Within, not_long, height_fits, parents_fit, filled}
+use Rattle.tallest.proofs.Answers.{no_nodes, too_many, not_long, height_fits, parents_fit, filled}
 use Rattle.tallest.proofs.tallest.Goals as goal
 
 pub returns-then-n-eq0 : goal.returns-then-n-eq0
@@ -16,44 +14,50 @@ returns-then-most-n c = too_many _ _ c.large_limits-limits.ensures c.if-n-eq0.fa
 pub returns-then-not-long : goal.returns-then-not-long
 returns-then-not-long c =
     not_long (record {
-  is_large = c.large_limits-limits.ensures;
-  some = c.if-n-eq0.false;
-  few = c.if-most-n.false;
-  told = c.both_long-long.ensures;
-}) (ap not c.if-not-long.true)
+      is_large = c.large_limits-limits.ensures;
+      some = c.if-n-eq0.false;
+      few = c.if-most-n.false;
+      told = c.both_long-long.ensures;
+    }) (ap not c.if-not-long.true)
 
 pub hang_each-requires : goal.hang_each-requires
 hang_each-requires c =
     parents_fit (record {
-  is_large = c.large_limits-limits.ensures;
-  some = c.if-n-eq0.false;
-  few = c.if-most-n.false;
-  told = c.both_long-long.ensures;
-}) (ap not c.if-not-long.false)
+      is_large = c.large_limits-limits.ensures;
+      some = c.if-n-eq0.false;
+      few = c.if-most-n.false;
+      told = c.both_long-long.ensures;
+    }) (ap not c.if-not-long.false)
 
 pub overflow_mul-result : goal.overflow_mul-result
 overflow_mul-result c =
-    omega (arith, (height_fits (record {
-  is_large = c.large_limits-limits.ensures;
-  some = c.if-n-eq0.false;
-  few = c.if-most-n.false;
-  told = c.both_long-long.ensures;
-})).0)
+    omega (
+      arith,
+      (height_fits (record {
+        is_large = c.large_limits-limits.ensures;
+        some = c.if-n-eq0.false;
+        few = c.if-most-n.false;
+        told = c.both_long-long.ensures;
+      })).0,
+    )
 
 pub overflow_add-result : goal.overflow_add-result
 overflow_add-result c =
-    omega (arith, (height_fits (record {
-  is_large = c.large_limits-limits.ensures;
-  some = c.if-n-eq0.false;
-  few = c.if-most-n.false;
-  told = c.both_long-long.ensures;
-})).1)
+    omega (
+      arith,
+      (height_fits (record {
+        is_large = c.large_limits-limits.ensures;
+        some = c.if-n-eq0.false;
+        few = c.if-most-n.false;
+        told = c.both_long-long.ensures;
+      })).1,
+    )
 
 pub returns : goal.returns
 returns c =
     filled (record {
-  is_large = c.large_limits-limits.ensures;
-  some = c.if-n-eq0.false;
-  few = c.if-most-n.false;
-  told = c.both_long-long.ensures;
-}) (ap not c.if-not-long.false) c.hang_each.ensures c.rank_each.ensures
+      is_large = c.large_limits-limits.ensures;
+      some = c.if-n-eq0.false;
+      few = c.if-most-n.false;
+      told = c.both_long-long.ensures;
+    }) (ap not c.if-not-long.false) c.hang_each.ensures c.rank_each.ensures

@@ -1,6 +1,5 @@
 -- One store.
 use Rattle.text.specs.TextLaws.{appended_byte}
-use borrow.Author.Rules.{rules}
 use Rattle.text.proofs.put_byte.Goals as goal
 
 pub returns : goal.returns

@@ -1,6 +1,6 @@
 -- The number without its last digits is written; the power d of ten says how many.
 use native.Mathlib.Omega.{arith}
-use Rattle.text.proofs.Spelling.{Spelling, first_digit, spelling_start, spelling_room, spelling_step}
+use Rattle.text.proofs.Spelling.{first_digit, spelling_start, spelling_room, spelling_step}
 use Rattle.text.proofs.Spelling.{spelling_end}
 use Rattle.text.proofs.Spelling.{power_positive, power_before}
 use Rattle.text.proofs.put_decimal.Goals as goal

@@ -1,24 +1,20 @@
 -- The lines of the lots below v are written.
-use Prim.Native.Nat.{◌-◌}
 use native.Mathlib.Omega.{arith}
-use lib.ListN.{length}
-use Rattle.text.specs.Parts.{places_of}
-use Rattle.text.proofs.Listing.{Listing, listing_start, listing_step, listing_end, listing_room}
+use Rattle.text.proofs.Listing.{listing_start, listing_step, listing_end, listing_room}
 use Rattle.text.proofs.put_lines.Goals as goal
 
 pub loop-v-init : goal.loop-v-init
 loop-v-init c = listing_start _ _ _ _
 
 pub put_line-e-requires : goal.put_line-e-requires
-put_line-e-requires c =
-    (
-      listing_room _ _ c.requires c.loop-v.invariant c.loop-v-test.true,
-      omega arith,
-      omega arith,
-      omega arith,
-      omega arith,
-      omega arith,
-    )
+put_line-e-requires c = (
+  listing_room _ _ c.requires c.loop-v.invariant c.loop-v-test.true,
+  omega arith,
+  omega arith,
+  omega arith,
+  omega arith,
+  omega arith,
+)
 
 pub loop-v-preserved : goal.loop-v-preserved
 loop-v-preserved c =

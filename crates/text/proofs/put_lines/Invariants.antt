@@ -1,9 +1,8 @@
 -- The lines of the lots below v are written.
 use Prim.Native.Nat.{◌-◌}
-use native.Mathlib.Omega.{arith}
 use lib.ListN.{length}
 use Rattle.text.specs.Parts.{places_of}
-use Rattle.text.proofs.Listing.{Listing, listing_start, listing_step, listing_end, listing_room}
+use Rattle.text.proofs.Listing.{Listing}
 use Rattle.text.proofs.put_lines.Given as goal
 
 abbrev pub invariant-loop-v : goal.invariant-loop-v

@@ -1,8 +1,6 @@
 -- The word, then two numbers.
-use native.Mathlib.Omega.{arith}
 use Rattle.text.specs.Text.{refusal_of}
 use Rattle.text.specs.TextLaws.{appended_on}
-use borrow.Author.Rules.{rules}
 use Rattle.text.proofs.put_refusal.Goals as goal
 
 pub returns : goal.returns

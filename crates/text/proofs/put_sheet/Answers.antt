@@ -1,6 +1,5 @@
 -- The title, then the lines.
 use Rattle.text.proofs.Listing.{lines_room, sheet_written}
-use borrow.Author.Rules.{rules}
 use Rattle.text.proofs.put_sheet.Goals as goal
 
 pub put_lines-requires : goal.put_lines-requires

@@ -1,7 +1,6 @@
 -- The word, then the number.
 use Rattle.text.specs.TextLaws.{appended_on}
 use Rattle.text.specs.Parts.{title_of}
-use borrow.Author.Rules.{rules}
 use Rattle.text.proofs.put_title.Goals as goal
 
 pub returns : goal.returns

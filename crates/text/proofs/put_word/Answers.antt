@@ -1,9 +1,6 @@
 -- The first i bytes are written.
 use mathlib.Core.Path.{refl}
-use Prim.Native.Nat.{◌-◌}
-use native.Mathlib.Omega.{arith}
-use lib.ListN.{length}
-use Rattle.text.proofs.Listing.{Copying, copying_start, copying_step, copying_end}
+use Rattle.text.proofs.Listing.{copying_start, copying_step, copying_end}
 use Rattle.text.proofs.put_word.Goals as goal
 
 pub loop-i-init : goal.loop-i-init

@@ -1,9 +1,7 @@
 -- The first i bytes are written.
-use mathlib.Core.Path.{refl}
 use Prim.Native.Nat.{◌-◌}
-use native.Mathlib.Omega.{arith}
 use lib.ListN.{length}
-use Rattle.text.proofs.Listing.{Copying, copying_start, copying_step, copying_end}
+use Rattle.text.proofs.Listing.{Copying}
 use Rattle.text.proofs.put_word.Given as goal
 
 abbrev pub invariant-loop-i : goal.invariant-loop-i

@@ -1,7 +1,6 @@
 -- The powers of ten are taken one after the other, up to n.
-use Prim.Native.Nat.{◌-◌}
 use native.Mathlib.Omega.{arith}
-use Rattle.text.proofs.Spelling.{Climbing, climbing_start, climbing_step, climbing_end, climbing_low}
+use Rattle.text.proofs.Spelling.{climbing_start, climbing_step, climbing_end, climbing_low}
 use Rattle.text.proofs.Spelling.{power_positive}
 use Rattle.text.proofs.unit.Goals as goal
 

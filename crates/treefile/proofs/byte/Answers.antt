@@ -1,5 +1,4 @@
 -- A byte fits a usize.
-use borrow.Author.Rules.{rules}
 use mathlib.Core.Path.{refl}
 use native.Mathlib.Omega.{arith}
 use Rattle.treefile.proofs.byte.Goals as goal

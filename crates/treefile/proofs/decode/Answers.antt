@@ -1,10 +1,10 @@
 -- The numbers below v are decoded.
-use Prim.Native.Nat.{ℕ, ◌+◌, ◌*◌, ◌-◌}
+use Prim.Native.Nat.{ℕ}
 use mathlib.Core.Path.{◌∙◌, refl, ap}
 use native.Mathlib.Omega.{arith}
-use lib.ListN.{length, set}
-use Rattle.treefile.specs.TreeFile.{word_at, words}
-use Rattle.laws.specs.Filling.{Filled, filled_start, filled_step, filled_all}
+use lib.ListN.{set}
+use Rattle.treefile.specs.TreeFile.{words}
+use Rattle.laws.specs.Filling.{filled_start, filled_step, filled_all}
 use Rattle.treefile.proofs.decode.Goals as goal
 
 pub loop-v-init : goal.loop-v-init

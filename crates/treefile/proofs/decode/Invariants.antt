@@ -1,10 +1,8 @@
 -- The numbers below v are decoded.
-use Prim.Native.Nat.{ℕ, ◌+◌, ◌*◌, ◌-◌}
-use mathlib.Core.Path.{◌∙◌, refl, ap}
-use native.Mathlib.Omega.{arith}
-use lib.ListN.{length, set}
-use Rattle.treefile.specs.TreeFile.{word_at, words}
-use Rattle.laws.specs.Filling.{Filled, filled_start, filled_step, filled_all}
+use Prim.Native.Nat.{◌+◌, ◌*◌, ◌-◌}
+use lib.ListN.{length}
+use Rattle.treefile.specs.TreeFile.{word_at}
+use Rattle.laws.specs.Filling.{Filled}
 use Rattle.treefile.proofs.decode.Given as goal
 
 abbrev pub invariant-loop-v : goal.invariant-loop-v

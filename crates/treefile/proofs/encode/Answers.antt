@@ -1,8 +1,5 @@
 -- The numbers below v are written.
-use Prim.Native.Nat.{◌-◌}
-use native.Mathlib.Omega.{arith}
-use lib.ListN.{length}
-use Rattle.treefile.proofs.Encoding.{Encoding, encoding_start, encoding_step, encoding_end}
+use Rattle.treefile.proofs.Encoding.{encoding_start, encoding_step, encoding_end}
 use Rattle.treefile.proofs.encode.Goals as goal
 
 pub loop-v-init : goal.loop-v-init

@@ -1,8 +1,7 @@
 -- The numbers below v are written.
 use Prim.Native.Nat.{◌-◌}
-use native.Mathlib.Omega.{arith}
 use lib.ListN.{length}
-use Rattle.treefile.proofs.Encoding.{Encoding, encoding_start, encoding_step, encoding_end}
+use Rattle.treefile.proofs.Encoding.{Encoding}
 use Rattle.treefile.proofs.encode.Given as goal
 
 abbrev pub invariant-loop-v : goal.invariant-loop-v

@@ -1,6 +1,5 @@
 -- The old contents are kept in the half of the work list that `validate` leaves alone.
 use native.Mathlib.Omega.{arith}
-use borrow.Author.Rules.{rules}
 use Rattle.treefile.proofs.Loading.{parents_room, ranks_room, loaded-accepted, loaded_refused}
 use Rattle.treefile.proofs.load.Goals as goal
 

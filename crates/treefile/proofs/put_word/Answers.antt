@@ -1,5 +1,4 @@
 -- Four stores, one after the other.
-use borrow.Author.Rules.{rules}
 use native.Mathlib.Omega.{arith}
 use lib.ListN.{length-set}
 use Rattle.treefile.proofs.Encoding.{word_put}

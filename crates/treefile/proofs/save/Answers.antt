@@ -1,8 +1,6 @@
 -- The first i numbers are copied.
-use Prim.Native.Nat.{◌-◌}
 use native.Mathlib.Omega.{arith}
-use lib.ListN.{length, get_or}
-use Rattle.laws.specs.Filling.{Filled, filled_start, filled_step}
+use Rattle.laws.specs.Filling.{filled_start, filled_step}
 use Rattle.treefile.proofs.save.Goals as goal
 
 pub loop-i-init : goal.loop-i-init

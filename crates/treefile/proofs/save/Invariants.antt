@@ -1,8 +1,7 @@
 -- The first i numbers are copied.
 use Prim.Native.Nat.{◌-◌}
-use native.Mathlib.Omega.{arith}
 use lib.ListN.{length, get_or}
-use Rattle.laws.specs.Filling.{Filled, filled_start, filled_step}
+use Rattle.laws.specs.Filling.{Filled}
 use Rattle.treefile.proofs.save.Given as goal
 
 abbrev pub invariant-loop-i : goal.invariant-loop-i

@@ -1,13 +1,11 @@
 -- Four bytes make at most 2^32 - 1.
-use borrow.Author.Rules.{rules}
 use native.Mathlib.Omega.{arith}
 use Rattle.treefile.specs.TreeFile.{word_at}
 use Rattle.treefile.proofs.word.Goals as goal
 
 pub returns : goal.returns
 unfolding word_at
-returns c =
-    (
-      omega arith,
-      omega arith,
-    )
+returns c = (
+  omega arith,
+  omega arith,
+)

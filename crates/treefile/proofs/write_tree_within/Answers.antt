@@ -1,6 +1,5 @@
 -- An accepted table's file, number by number.
 use native.Mathlib.Omega.{arith}
-use borrow.Author.Rules.{rules}
 use Rattle.treefile.proofs.Encoding.{accepted, wrote_refused, wrote_17, wrote_file, file_written}
 use Rattle.treefile.proofs.write_tree_within.Goals as goal
 

@@ -1,5 +1,4 @@
 -- Both numbers are floats exactly, and so is their quotient.
-use borrow.Author.Rules.{rules}
 use mathlib.Core.Path.{sym, subst}
 use Prim.Native.Nat.{ℕ}
 use native.Mathlib.Omega.{arith}

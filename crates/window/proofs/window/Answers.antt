@@ -1,11 +1,7 @@
 -- Each coordinate is tested against the corner; where both lie in the window, its distance is divided by the side.
-use borrow.Author.Rules.{rules}
-use borrow.Author.Tests.{not-true, not-false}
-use mathlib.Core.Path.{◌≡◌, ◌∙◌}
-use mathlib.Core.Bool.{true}
-use Prim.Native.Nat.{◌^◌}
+use mathlib.Core.Path.{◌∙◌}
 use Rattle.laws.specs.Tests.{both_is}
-use Rattle.window.specs.Window.{within, inside, Says}
+use Rattle.window.specs.Window.{inside, Says}
 use Rattle.window.specs.WindowLaws.{within_says}
 use Rattle.window.proofs.Sides.{tested, outside_across, outside_up, too_wide, no_wider}
 use Rattle.window.proofs.window.Goals as goal
