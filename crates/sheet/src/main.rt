@@ -1,30 +1,36 @@
 // Reads a tree file from standard input and prints the sheet that document 01 asks for, or the refusal.
 //
-// One byte more than the longest accepted file is read: what follows does not change the text (`cut_same`). A program
-// has no exit status of its own: where the input cannot be read or the text cannot be written, a line on standard error
-// says so, and no refusal is printed for a file that was not read.
+// One byte more than the longest accepted file is read: what follows does not change the text (`cut_same`). The exit
+// status says nothing of a failure: where the input cannot be read or the text cannot be written, a line on standard
+// error says so, and no refusal is printed for a file that was not read.
 #![tactic(auto)]
-use libc::{STDERR_FILENO, STDIN_FILENO, STDOUT_FILENO};
+
+ghost use Rattle.std.specs.Prelude.{◌≤◌, length, IfOk};
+
+use std::io::{self, Read, Write};
 
 const MOST: usize = 32773;
 
-// Whether all of the input, or MOST bytes, came with the m bytes that were read. `io::read_full` stops at the end and
-// at a failure alike; at the end alone another read answers 0.
-fn all_read(m: usize) -> bool {
-    if m == MOST {
-        return true;
+// Reads until the buffer is full or the input ends, and returns how many bytes came.
+fn read_full<R: Read>(input: &mut R, bytes: &mut [u8]) -> io::Result<usize>
+    ensures { IfOk result (λ m. m ≤ length bytes.new) }
+{
+    let mut m = 0;
+    while m < bytes.len() {
+        let k = input.read(&mut bytes[m..])?;
+        if k == 0 {
+            return Ok(m);
+        }
+        m += k;
     }
-    let mut more = [0u8; 1];
-    libc::read(STDIN_FILENO, &mut more) == 0
+    Ok(m)
 }
 
-fn main() {
+fn main(rt: HostRuntime) -> io::Result<()> {
     let mut bytes = [0u8; MOST];
-    let m = io::read_full(STDIN_FILENO, &mut bytes);
-    if !all_read(m) {
-        io::write_all(STDERR_FILENO, b"sheet: standard input cannot be read\n");
-        return;
-    }
+    let Ok(m) = read_full(&mut rt.stdin(), &mut bytes) else {
+        return eprintln!(rt; "sheet: standard input cannot be read");
+    };
     let mut parent = [0u32; 4096];
     let mut rank = [0u32; 4096];
     let mut times = [0u32; 4096];
@@ -48,7 +54,8 @@ fn main() {
         &mut work,
         &mut out,
     );
-    if !io::write_all(STDOUT_FILENO, &out[..k]) {
-        io::write_all(STDERR_FILENO, b"sheet: standard output cannot be written\n");
-    }
+    let Ok(()) = rt.stdout().write_all(&out[..k]) else {
+        return eprintln!(rt; "sheet: standard output cannot be written");
+    };
+    Ok(())
 }
