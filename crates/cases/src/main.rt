@@ -5,6 +5,7 @@
 // Each line ends with its lists, each mixed into one number: the two of a table, three, or the four of a sheet. What is
 // printed is compared with the output of tests/cases.py, which makes the same calls in plain Python.
 #![tactic(auto)]
+
 ghost use Rattle.std.specs.Prelude.{◌≤◌};
 
 use aligning::Aligned;
@@ -12,7 +13,7 @@ use arranging::Arranged;
 use drawing::Framed;
 use monotone::Verdict;
 use slopes::Rule;
-use std::num::{wrapping_add_u32, wrapping_sub_u32, wrapping_sub_usize};
+use std::io;
 
 // A tree and a rule: the shape, whether nodes are relabelled, whether the rule is balanced, and how many nodes.
 #[derive(Clone, Copy)]
@@ -78,49 +79,46 @@ fn mixed(list: &[u32]) -> u64 {
 }
 
 // A number and a space.
-fn show(a: u32) {
-    io::print_decimal(1, a as u64);
-    io::write_all(1, b" ");
+fn show(rt: &HostRuntime, a: u32) -> io::Result<()> {
+    print!(rt; "{a} ")
 }
 
-fn show_three(a: u32, b: u32, c: u32) {
-    show(a);
-    show(b);
-    show(c);
+fn show_three(rt: &HostRuntime, a: u32, b: u32, c: u32) -> io::Result<()> {
+    print!(rt; "{a} {b} {c} ")
 }
 
 // Three mixed numbers, and the line's end.
-fn show_mixed(a: u64, b: u64, c: u64) {
-    io::print_decimal(1, a);
-    io::write_all(1, b" ");
-    io::print_decimal(1, b);
-    io::write_all(1, b" ");
-    io::print_decimal(1, c);
-    io::write_all(1, b"\n");
+fn show_mixed(rt: &HostRuntime, a: u64, b: u64, c: u64) -> io::Result<()> {
+    println!(rt; "{a} {b} {c}")
 }
 
 // The lists of a table, and the line's end.
-fn show_table(parent: &[u32], rank: &[u32]) {
-    io::print_decimal(1, mixed(parent));
-    io::write_all(1, b" ");
-    io::print_decimal(1, mixed(rank));
-    io::write_all(1, b"\n");
+fn show_table(rt: &HostRuntime, parent: &[u32], rank: &[u32]) -> io::Result<()> {
+    let p = mixed(parent);
+    let r = mixed(rank);
+    println!(rt; "{p} {r}")
 }
 
 // Three lists, and the line's end.
-fn show_lists(a: &[u32], x: &[u32], y: &[u32]) {
-    show_mixed(mixed(a), mixed(x), mixed(y));
+fn show_lists(rt: &HostRuntime, a: &[u32], x: &[u32], y: &[u32]) -> io::Result<()> {
+    show_mixed(rt, mixed(a), mixed(x), mixed(y))
 }
 
 // The lists of a sheet, and the line's end.
-fn show_sheet(times: &[u32], x: &[u32], y: &[u32], held: &[u32]) {
-    io::print_decimal(1, mixed(times));
-    io::write_all(1, b" ");
-    show_lists(x, y, held);
+fn show_sheet(
+    rt: &HostRuntime,
+    times: &[u32],
+    x: &[u32],
+    y: &[u32],
+    held: &[u32],
+) -> io::Result<()> {
+    let t = mixed(times);
+    print!(rt; "{t} ")?;
+    show_lists(rt, x, y, held)
 }
 
 // The walks to the slopes of k levels, in order: k, then the across parts, the up parts and the numbers of turns.
-fn show_walks(k: u32)
+fn show_walks(rt: &HostRuntime, k: u32) -> io::Result<()>
     requires { k ≤ 16 }
 {
     let end = 1u32 << k;
@@ -135,17 +133,18 @@ fn show_walks(k: u32)
         turns = mix(turns, walked.turns);
         j += 1;
     }
-    show(k);
-    show_mixed(across, up, turns);
+    show(rt, k)?;
+    show_mixed(rt, across, up, turns)
 }
 
 // The walks in 1 to 16 levels, which are all that 65,536 lots need.
-fn walks() {
+fn walks(rt: &HostRuntime) -> io::Result<()> {
     let mut k = 1;
     while k <= 16 {
-        show_walks(k);
+        show_walks(rt, k)?;
         k += 1;
     }
+    Ok(())
 }
 
 // The next number of a small linear congruential generator.
@@ -177,7 +176,7 @@ fn pick(shape: u32, n: usize, v: usize, seed: u64) -> usize {
 // The number of v: v itself, or n - v where nodes are relabelled, so that parents come after their children.
 fn name(relabelled: bool, n: usize, v: usize) -> usize {
     if relabelled && 0 < v {
-        wrapping_sub_usize(n, v)
+        n.wrapping_sub(v)
     } else {
         v
     }
@@ -188,7 +187,7 @@ fn hang(parent: &mut [u32], rank: &mut [u32], used: &mut [u32], v: usize, p: usi
     store(parent, v, (p % 4294967296) as u32);
     let k = look(used, p);
     store(rank, v, k);
-    store(used, p, wrapping_add_u32(k, 1));
+    store(used, p, k.wrapping_add(1));
 }
 
 // A tree of the shape. The lists are zeroed; `used` counts the children of each node.
@@ -207,19 +206,19 @@ fn grow(shape: u32, relabelled: bool, parent: &mut [u32], rank: &mut [u32], used
 }
 
 // 1 and the frame, or 0 and the refusal.
-fn show_framed(answer: Framed) {
+fn show_framed(rt: &HostRuntime, answer: Framed) -> io::Result<()> {
     match answer {
-        Framed::Frame(width, height) => show_three(1, width, height),
-        Framed::Refused(number, node) => show_three(0, number, node),
+        Framed::Frame(width, height) => show_three(rt, 1, width, height),
+        Framed::Refused(number, node) => show_three(rt, 0, number, node),
     }
 }
 
 // 2 for Monotone, 1 and the pair that turns, or 0 and the refusal.
-fn show_verdict(answer: Verdict) {
+fn show_verdict(rt: &HostRuntime, answer: Verdict) -> io::Result<()> {
     match answer {
-        Verdict::Monotone => show_three(2, 0, 0),
-        Verdict::Turns(u, v) => show_three(1, u, v),
-        Verdict::Refused(number, node) => show_three(0, number, node),
+        Verdict::Monotone => show_three(rt, 2, 0, 0),
+        Verdict::Turns(u, v) => show_three(rt, 1, u, v),
+        Verdict::Refused(number, node) => show_three(rt, 0, number, node),
     }
 }
 
@@ -233,6 +232,7 @@ fn rule_of(balanced: bool) -> Rule {
 
 // The fresh drawing.
 fn show_layout(
+    rt: &HostRuntime,
     rule: Rule,
     parent: &[u32],
     rank: &[u32],
@@ -241,10 +241,10 @@ fn show_layout(
     y: &mut [u32],
     held: &mut [u32],
     work: &mut [u32],
-) {
+) -> io::Result<()> {
     let answer = drawing::layout(rule, parent, rank, times, x, y, held, work);
-    show_framed(answer);
-    show_sheet(times, x, y, held);
+    show_framed(rt, answer)?;
+    show_sheet(rt, times, x, y, held)
 }
 
 // Lengthens, shortens, holds or frees.
@@ -283,6 +283,7 @@ fn make(
 
 // One call, its answer and what it leaves.
 fn show_call(
+    rt: &HostRuntime,
     call: Call,
     rule: Rule,
     parent: &[u32],
@@ -292,11 +293,11 @@ fn show_call(
     y: &mut [u32],
     held: &mut [u32],
     work: &mut [u32],
-) {
-    show_three(call.kind, call.node, call.count);
+) -> io::Result<()> {
+    show_three(rt, call.kind, call.node, call.count)?;
     let answer = make(call, rule, parent, rank, times, x, y, held, work);
-    show_framed(answer);
-    show_sheet(times, x, y, held);
+    show_framed(rt, answer)?;
+    show_sheet(rt, times, x, y, held)
 }
 
 fn of(kind: u32, node: u32, count: u32) -> Call {
@@ -350,6 +351,7 @@ fn call_at(i: usize, n: u32, last: u32) -> Call {
 
 // The list of calls, refused ones among them.
 fn calls(
+    rt: &HostRuntime,
     rule: Rule,
     parent: &[u32],
     rank: &[u32],
@@ -358,19 +360,21 @@ fn calls(
     y: &mut [u32],
     held: &mut [u32],
     work: &mut [u32],
-) {
+) -> io::Result<()> {
     let n = (parent.len() % 4294967296) as u32;
     let last = (before(parent.len()) % 4294967296) as u32;
     let mut i = 0;
     while i < 19 {
         let call = call_at(i, n, last);
-        show_call(call, rule, parent, rank, times, x, y, held, work);
+        show_call(rt, call, rule, parent, rank, times, x, y, held, work)?;
         i += 1;
     }
+    Ok(())
 }
 
 // Lengthens an edge by 2^31, 2^30, .., 1, each where it fits: afterwards not even 1 does.
 fn reach(
+    rt: &HostRuntime,
     node: u32,
     rule: Rule,
     parent: &[u32],
@@ -380,32 +384,33 @@ fn reach(
     y: &mut [u32],
     held: &mut [u32],
     work: &mut [u32],
-) {
+) -> io::Result<()> {
     let mut count = 2147483648;
     while 0 < count {
         stretching::lengthen(rule, parent, rank, times, x, y, held, work, node, count);
         count /= 2;
     }
     let last = longer(node, 1);
-    show_call(last, rule, parent, rank, times, x, y, held, work);
+    show_call(rt, last, rule, parent, rank, times, x, y, held, work)
 }
 
 // 1, the frame and 0, or 0, the refusal and its place.
-fn show_arranged(answer: Arranged) {
+fn show_arranged(rt: &HostRuntime, answer: Arranged) -> io::Result<()> {
     match answer {
         Arranged::Frame(width, height) => {
-            show_three(1, width, height);
-            show(0);
+            show_three(rt, 1, width, height)?;
+            show(rt, 0)
         }
         Arranged::Refused(number, node, place) => {
-            show_three(0, number, node);
-            show((place % 4294967296) as u32);
+            show_three(rt, 0, number, node)?;
+            show(rt, (place % 4294967296) as u32)
         }
     }
 }
 
 // A list of lengthens in one call. The fourth is of a held edge, and so the fifth is not tried.
 fn arrange(
+    rt: &HostRuntime,
     rule: Rule,
     parent: &[u32],
     rank: &[u32],
@@ -414,7 +419,7 @@ fn arrange(
     y: &mut [u32],
     held: &[u32],
     work: &mut [u32],
-) {
+) -> io::Result<()> {
     let n = (parent.len() % 4294967296) as u32;
     let last = (before(parent.len()) % 4294967296) as u32;
     let lots = [n / 4, n / 2, n / 4, last, n / 2];
@@ -422,21 +427,22 @@ fn arrange(
     let answer = arranging::lengthen_each(
         rule, parent, rank, times, x, y, held, work, &lots, &counts,
     );
-    show_arranged(answer);
-    show_sheet(times, x, y, held);
+    show_arranged(rt, answer)?;
+    show_sheet(rt, times, x, y, held)
 }
 
 // 1 and the count, 2 where no count brings the lot there, or 0 and the refusal.
-fn show_aligned(answer: Aligned) {
+fn show_aligned(rt: &HostRuntime, answer: Aligned) -> io::Result<()> {
     match answer {
-        Aligned::Count(count) => show_three(1, count, 0),
-        Aligned::None => show_three(2, 0, 0),
-        Aligned::Refused(number, lot) => show_three(0, number, lot),
+        Aligned::Count(count) => show_three(rt, 1, count, 0),
+        Aligned::None => show_three(rt, 2, 0, 0),
+        Aligned::Refused(number, lot) => show_three(rt, 0, number, lot),
     }
 }
 
 // One column, its answer, and the sheet, in which nothing has moved.
 fn show_column(
+    rt: &HostRuntime,
     goal: Goal,
     rule: Rule,
     parent: &[u32],
@@ -446,14 +452,14 @@ fn show_column(
     y: &[u32],
     held: &[u32],
     work: &mut [u32],
-) {
+) -> io::Result<()> {
     let lot = goal.lot;
     let column = goal.column;
-    show(lot);
-    show(column);
+    show(rt, lot)?;
+    show(rt, column)?;
     let answer = aligning::column(rule, parent, rank, times, x, y, held, work, lot, column);
-    show_aligned(answer);
-    show_sheet(times, x, y, held);
+    show_aligned(rt, answer)?;
+    show_sheet(rt, times, x, y, held)
 }
 
 fn to(lot: u32, column: u32) -> Goal {
@@ -468,9 +474,9 @@ fn to(lot: u32, column: u32) -> Goal {
 fn goal_at(i: usize, n: u32, last: u32, a: u32, b: u32) -> Goal {
     match i {
         0 => to(n / 2, a),
-        1 => to(n / 2, wrapping_add_u32(a, 1)),
-        2 => to(n / 2, wrapping_add_u32(a, 2520)),
-        3 => to(n / 2, wrapping_sub_u32(a, 1)),
+        1 => to(n / 2, a.wrapping_add(1)),
+        2 => to(n / 2, a.wrapping_add(2520)),
+        3 => to(n / 2, a.wrapping_sub(1)),
         4 => to(n / 2, 2147483647),
         5 => to(n / 2, 2147483648),
         6 => to(last, b),
@@ -481,6 +487,7 @@ fn goal_at(i: usize, n: u32, last: u32, a: u32, b: u32) -> Goal {
 
 // The list of columns: some that a count reaches, some that none does, and refused ones.
 fn columns(
+    rt: &HostRuntime,
     rule: Rule,
     parent: &[u32],
     rank: &[u32],
@@ -489,7 +496,7 @@ fn columns(
     y: &[u32],
     held: &[u32],
     work: &mut [u32],
-) {
+) -> io::Result<()> {
     let n = (parent.len() % 4294967296) as u32;
     let last = (before(parent.len()) % 4294967296) as u32;
     let a = look(x, parent.len() / 2);
@@ -497,13 +504,15 @@ fn columns(
     let mut i = 0;
     while i < 9 {
         let asked = goal_at(i, n, last, a, b);
-        show_column(asked, rule, parent, rank, times, x, y, held, work);
+        show_column(rt, asked, rule, parent, rank, times, x, y, held, work)?;
         i += 1;
     }
+    Ok(())
 }
 
 // A list of lengthens, the columns, and the edge of the middle node lengthened as far as it goes.
 fn arrange_and_reach(
+    rt: &HostRuntime,
     rule: Rule,
     parent: &[u32],
     rank: &[u32],
@@ -512,15 +521,16 @@ fn arrange_and_reach(
     y: &mut [u32],
     held: &mut [u32],
     work: &mut [u32],
-) {
-    arrange(rule, parent, rank, times, x, y, held, work);
-    columns(rule, parent, rank, times, x, y, held, work);
+) -> io::Result<()> {
+    arrange(rt, rule, parent, rank, times, x, y, held, work)?;
+    columns(rt, rule, parent, rank, times, x, y, held, work)?;
     let middle = (parent.len() / 2 % 4294967296) as u32;
-    reach(middle, rule, parent, rank, times, x, y, held, work);
+    reach(rt, middle, rule, parent, rank, times, x, y, held, work)
 }
 
 // The single calls, then those.
 fn stretch(
+    rt: &HostRuntime,
     rule: Rule,
     parent: &[u32],
     rank: &[u32],
@@ -529,13 +539,14 @@ fn stretch(
     y: &mut [u32],
     held: &mut [u32],
     work: &mut [u32],
-) {
-    calls(rule, parent, rank, times, x, y, held, work);
-    arrange_and_reach(rule, parent, rank, times, x, y, held, work);
+) -> io::Result<()> {
+    calls(rt, rule, parent, rank, times, x, y, held, work)?;
+    arrange_and_reach(rt, rule, parent, rank, times, x, y, held, work)
 }
 
 // The fresh sheet, and what is made of it.
 fn draw(
+    rt: &HostRuntime,
     rule: Rule,
     parent: &[u32],
     rank: &[u32],
@@ -544,16 +555,23 @@ fn draw(
     y: &mut [u32],
     held: &mut [u32],
     work: &mut [u32],
-) {
-    show_layout(rule, parent, rank, times, x, y, held, work);
-    stretch(rule, parent, rank, times, x, y, held, work);
+) -> io::Result<()> {
+    show_layout(rt, rule, parent, rank, times, x, y, held, work)?;
+    stretch(rt, rule, parent, rank, times, x, y, held, work)
 }
 
 // The check's answer.
-fn judge(parent: &[u32], rank: &[u32], x: &[u32], y: &[u32], work: &mut [u32]) {
+fn judge(
+    rt: &HostRuntime,
+    parent: &[u32],
+    rank: &[u32],
+    x: &[u32],
+    y: &[u32],
+    work: &mut [u32],
+) -> io::Result<()> {
     let answer = monotone::check(parent, rank, x, y, work);
-    show_verdict(answer);
-    show_lists(parent, x, y);
+    show_verdict(rt, answer)?;
+    show_lists(rt, parent, x, y)
 }
 
 // A coordinate of v becomes that of the node before.
@@ -563,11 +581,18 @@ fn displace(c: &mut [u32], v: usize) {
 }
 
 // The check of the drawing, and of the one whose middle node stands where the node before it does.
-fn judge_twice(parent: &[u32], rank: &[u32], x: &mut [u32], y: &mut [u32], work: &mut [u32]) {
-    judge(parent, rank, x, y, work);
+fn judge_twice(
+    rt: &HostRuntime,
+    parent: &[u32],
+    rank: &[u32],
+    x: &mut [u32],
+    y: &mut [u32],
+    work: &mut [u32],
+) -> io::Result<()> {
+    judge(rt, parent, rank, x, y, work)?;
     displace(x, parent.len() / 2);
     displace(y, parent.len() / 2);
-    judge(parent, rank, x, y, work);
+    judge(rt, parent, rank, x, y, work)
 }
 
 // The tree of the case, on lists that are zeroed first.
@@ -593,6 +618,7 @@ fn plant(
 
 // The sheet is drawn and checked.
 fn draw_and_judge(
+    rt: &HostRuntime,
     rule: Rule,
     parent: &[u32],
     rank: &[u32],
@@ -601,13 +627,14 @@ fn draw_and_judge(
     y: &mut [u32],
     held: &mut [u32],
     work: &mut [u32],
-) {
-    draw(rule, parent, rank, times, x, y, held, work);
-    judge_twice(parent, rank, x, y, work);
+) -> io::Result<()> {
+    draw(rt, rule, parent, rank, times, x, y, held, work)?;
+    judge_twice(rt, parent, rank, x, y, work)
 }
 
 // The tree of the case is drawn and checked.
 fn whole_case(
+    rt: &HostRuntime,
     case: Case,
     parent: &mut [u32],
     rank: &mut [u32],
@@ -616,16 +643,17 @@ fn whole_case(
     y: &mut [u32],
     held: &mut [u32],
     work: &mut [u32],
-) {
-    show((parent.len() % 4294967296) as u32);
-    show_three(case.shape, case.relabelled as u32, case.balanced as u32);
+) -> io::Result<()> {
+    show(rt, (parent.len() % 4294967296) as u32)?;
+    show_three(rt, case.shape, case.relabelled as u32, case.balanced as u32)?;
     plant(case, parent, rank, times, x, y, held, work);
     let rule = rule_of(case.balanced);
-    draw_and_judge(rule, parent, rank, times, x, y, held, work);
+    draw_and_judge(rt, rule, parent, rank, times, x, y, held, work)
 }
 
 // The case on the first n numbers of each list, and 4n of the work list.
 fn sized_case(
+    rt: &HostRuntime,
     case: Case,
     parent: &mut [u32],
     rank: &mut [u32],
@@ -634,7 +662,7 @@ fn sized_case(
     y: &mut [u32],
     held: &mut [u32],
     work: &mut [u32],
-) {
+) -> io::Result<()> {
     let n = case.size;
     if parent.len() < n
         || rank.len() < n
@@ -643,12 +671,13 @@ fn sized_case(
         || y.len() < n
         || held.len() < n
     {
-        return;
+        return Ok(());
     }
     if work.len() / 4 < n {
-        return;
+        return Ok(());
     }
     whole_case(
+        rt,
         case,
         &mut parent[..n],
         &mut rank[..n],
@@ -657,36 +686,36 @@ fn sized_case(
         &mut y[..n],
         &mut held[..n],
         &mut work[..4 * n],
-    );
+    )
 }
 
 // The tallest tree of as many nodes as the lists are long, on lists that are zeroed first.
-fn show_tallest(n: u32, parent: &mut [u32], rank: &mut [u32]) {
+fn show_tallest(rt: &HostRuntime, n: u32, parent: &mut [u32], rank: &mut [u32]) -> io::Result<()> {
     clear(parent);
     clear(rank);
-    show(n);
+    show(rt, n)?;
     let answer = tallest::tallest(n, parent, rank);
-    show_framed(answer);
-    show_table(parent, rank);
+    show_framed(rt, answer)?;
+    show_table(rt, parent, rank)
 }
 
 // The same on the first n numbers of each list.
-fn sized_tallest(n: u32, parent: &mut [u32], rank: &mut [u32]) {
+fn sized_tallest(rt: &HostRuntime, n: u32, parent: &mut [u32], rank: &mut [u32]) -> io::Result<()> {
     let size = n as usize;
     if parent.len() < size || rank.len() < size {
-        return;
+        return Ok(());
     }
-    show_tallest(n, &mut parent[..size], &mut rank[..size]);
+    show_tallest(rt, n, &mut parent[..size], &mut rank[..size])
 }
 
 // 1, 2, 4 and so on up to 65,536 nodes, and one more.
-fn tallest_trees(parent: &mut [u32], rank: &mut [u32]) {
+fn tallest_trees(rt: &HostRuntime, parent: &mut [u32], rank: &mut [u32]) -> io::Result<()> {
     let mut n = 1;
     while n < 65537 {
-        sized_tallest(n, parent, rank);
+        sized_tallest(rt, n, parent, rank)?;
         n *= 2;
     }
-    sized_tallest(65537, parent, rank);
+    sized_tallest(rt, 65537, parent, rank)
 }
 
 // How many nodes: at most 4,096 pass the check, and 65,536 the other calls.
@@ -712,6 +741,7 @@ fn case_at(i: u32) -> Case {
 
 // The forty cases.
 fn cases(
+    rt: &HostRuntime,
     parent: &mut [u32],
     rank: &mut [u32],
     times: &mut [u32],
@@ -719,17 +749,18 @@ fn cases(
     y: &mut [u32],
     held: &mut [u32],
     work: &mut [u32],
-) {
+) -> io::Result<()> {
     let mut i = 0;
     while i < 40 {
         let case = case_at(i);
-        sized_case(case, parent, rank, times, x, y, held, work);
+        sized_case(rt, case, parent, rank, times, x, y, held, work)?;
         i += 1;
     }
+    Ok(())
 }
 
-fn main() {
-    walks();
+fn main(rt: HostRuntime) -> io::Result<()> {
+    walks(&rt)?;
     let mut parent = [0u32; 65537];
     let mut rank = [0u32; 65537];
     let mut times = [0u32; 65537];
@@ -737,8 +768,9 @@ fn main() {
     let mut y = [0u32; 65537];
     let mut held = [0u32; 65537];
     let mut work = [0u32; 262148];
-    tallest_trees(&mut parent, &mut rank);
+    tallest_trees(&rt, &mut parent, &mut rank)?;
     cases(
+        &rt,
         &mut parent,
         &mut rank,
         &mut times,
@@ -746,5 +778,5 @@ fn main() {
         &mut y,
         &mut held,
         &mut work,
-    );
+    )
 }
