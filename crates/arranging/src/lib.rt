@@ -1,5 +1,6 @@
 // A list of lengthens in one call (document 02, request 105).
 #![tactic(auto)]
+
 ghost use Rattle.std.specs.Prelude.{◌≡◌, length};
 ghost use Rattle.table.specs.Table.{large};
 ghost use Rattle.drawing.specs.Drawing.{lent, sheet_of, sheet, to_read, to_write};
@@ -78,8 +79,11 @@ fn lengthen_in_turn(
     requires { FramesFit limits × Opened limits parent.now rank.now rule
         (sheet_of (lent times.old x.old y.old) held.now) work.now
         × (length counts.now ≡ length lots.now) }
-    ensures { record { answer = result; left =
-        (sheet (to_write times) (to_write x) (to_write y) (to_read held)).exit }
+    ensures { record {
+      answer = result;
+      left =
+          (sheet (to_write times) (to_write x) (to_write y) (to_read held)).exit;
+    }
         ≡ in_turn limits parent.now rank.now rule (length work.now)
         (sheet (to_write times) (to_write x) (to_write y) (to_read held)).entry 1 lots.now counts.now }
 {

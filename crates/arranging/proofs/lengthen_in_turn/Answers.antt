@@ -21,14 +21,13 @@ returns-in-Refused c =
     c.lengthen_edge-done.ensures c.in-Refused.is
 
 pub loop-i-preserved : goal.loop-i-preserved
-loop-i-preserved c =
-    (
-      turning_step c.loop-i.invariant.0 c.requires.2 c.loop-i-test.true refl refl
-          c.lengthen_edge-done.ensures c.in-Accepted.is,
-      c.lengthen_edge-done.auto.times ∙ c.loop-i.invariant.1,
-      c.lengthen_edge-done.auto.x ∙ c.loop-i.invariant.2,
-      c.lengthen_edge-done.auto.y ∙ c.loop-i.invariant.3,
-    )
+loop-i-preserved c = (
+  turning_step c.loop-i.invariant.0 c.requires.2 c.loop-i-test.true refl refl
+      c.lengthen_edge-done.ensures c.in-Accepted.is,
+  c.lengthen_edge-done.auto.times ∙ c.loop-i.invariant.1,
+  c.lengthen_edge-done.auto.x ∙ c.loop-i.invariant.2,
+  c.lengthen_edge-done.auto.y ∙ c.loop-i.invariant.3,
+)
 
 pub frame_of-requires : goal.frame_of-requires
 frame_of-requires c = framable c.requires.0 c.loop-i.invariant.0.opened.inspected.sound.drawn refl
