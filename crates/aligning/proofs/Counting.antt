@@ -15,10 +15,11 @@ use Rattle.slopes.specs.declared.Rule.{Rule}
 use Rattle.slopes.specs.declared.Slope.{Slope}
 use Rattle.slopes.specs.Slopes.{edge}
 use Rattle.drawing.specs.Drawing.{Sheet}
-use Rattle.stretching.specs.CallLaws.{Examined, examined, examined_again}
-use Rattle.stretching.specs.Parts.{Examining}
+use Rattle.stretching.specs.Calls.{Examined}
+use Rattle.stretching.proofs.CallLaws.{examined, examined_again}
+use Rattle.stretching.proofs.Openings.{Examining}
 use Rattle.stretching.specs.Stretching.{beyond}
-use Rattle.stretching.specs.StretchLaws.{longer}
+use Rattle.stretching.specs.Stretches.{longer}
 use Rattle.aligning.specs.Aligning.{Says, Aligns}
 use Rattle.aligning.specs.AlignLaws.{Obstacle, obstacle_none, left_over, fills_brings, wide}
 use Rattle.aligning.specs.declared.Aligned.{Aligned}

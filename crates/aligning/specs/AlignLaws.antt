@@ -23,15 +23,17 @@ use Rattle.laws.specs.Tests.{by_test, by_eq, by_lt, differ}
 use Rattle.table.specs.Ancestry.{under_refl}
 use Rattle.table.specs.declared.Limits.{Limits}
 use Rattle.slopes.specs.declared.Rule.{Rule}
-use Rattle.slopes.specs.SlopeLaws.{edge_positive}
+use Rattle.slopes.proofs.SlopeLaws.{edge_positive}
 use Rattle.slopes.specs.Slopes.{across_of, edge}
 use Rattle.drawing.specs.declared.Framed.{Framed}
 use Rattle.drawing.specs.declared.Framed.TheVariants as framed
 use Rattle.drawing.specs.Drawing.{Drawing, Sheet, frame, accepted}
-use Rattle.stretching.specs.CallLaws.{Examined, examined, examined_again, free_again, beyond_no, lengthen-accepted}
-use Rattle.stretching.specs.CallLaws.{lengthen_made, lengthen_0}
+use Rattle.stretching.specs.Calls.{Examined}
+use Rattle.stretching.proofs.CallLaws.{examined, examined_again, free_again, beyond_no, lengthen-accepted}
+use Rattle.stretching.proofs.CallLaws.{lengthen_made, lengthen_0}
 use Rattle.stretching.specs.Stretching.{beyond, lot_fault, is_held, lengthen}
-use Rattle.stretching.specs.StretchLaws.{longer, offset_in, longer_stretch}
+use Rattle.stretching.specs.Stretches.{longer}
+use Rattle.stretching.proofs.StretchLaws.{offset_in, longer_stretch}
 use Rattle.aligning.specs.Aligning.{Brings, Says}
 use Rattle.aligning.specs.declared.Aligned.{Aligned}
 use Rattle.aligning.specs.declared.Aligned.TheVariants.{Count, None, Refused}

@@ -18,7 +18,7 @@ use Rattle.drawing.specs.declared.Framed.{Framed}
 use Rattle.drawing.specs.Drawing.{Sheet, accepted}
 use Rattle.stretching.specs.Stretching.{lengthen}
 use Rattle.small.specs.Small.{Narrower, Near}
-use Rattle.small.specs.SmallLaws.{lot_same, lengthen_same_or_far, small-within}
+use Rattle.small.proofs.SmallLaws.{lot_same, lengthen_same_or_far, small-within}
 use Rattle.aligning.specs.Aligning.{Brings, Says}
 use Rattle.aligning.specs.AlignLaws.{unrefused, one_bringing}
 use Rattle.aligning.specs.declared.Aligned.{Aligned}

@@ -5,7 +5,7 @@ ghost use Rattle.std.specs.Prelude.{length};
 ghost use Rattle.table.specs.Numbering.{NumberedTree};
 ghost use Rattle.table.specs.Table.{large};
 ghost use Rattle.drawing.specs.Drawing.{lent, sheet_of, sheet, to_read};
-ghost use Rattle.stretching.specs.CallLaws.{Examined};
+ghost use Rattle.stretching.specs.Calls.{Examined};
 ghost use Rattle.aligning.specs.Aligning.{Says, Aligns};
 
 use slopes::{Rule, edge_slope};

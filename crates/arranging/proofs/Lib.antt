@@ -1,2 +1,3 @@
 pub mod Turns
 pub mod Listing
+pub mod EachLaws

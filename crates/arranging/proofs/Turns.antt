@@ -13,12 +13,13 @@ use Rattle.table.specs.declared.Validity.TheVariants.{Accepted, Refused}
 use Rattle.slopes.specs.declared.Rule.{Rule}
 use Rattle.drawing.specs.declared.Framed.{Framed}
 use Rattle.drawing.specs.Drawing.{Sheet, frame}
-use Rattle.stretching.specs.Parts.{Opened, framing, opened_after}
+use Rattle.stretching.specs.Parts.{Opened, framing}
+use Rattle.stretching.proofs.Openings.{opened_after}
 use Rattle.stretching.specs.Stretching.{lengthen}
 use Rattle.arranging.specs.declared.Arranged.{Arranged}
 use Rattle.arranging.specs.declared.Arranged.TheVariants as answer
 use Rattle.arranging.specs.Arranging.{at_place, in_turn}
-use Rattle.arranging.specs.EachLaws.{turn_goes_on, turn_stops}
+use Rattle.arranging.proofs.EachLaws.{turn_goes_on, turn_stops}
 
 -- s is the sheet at the start, and t what the first i lengthens leave
 pub record Turning (L : Limits) (P R : List ℕ) (rule : Rule) (W : List ℕ) (s : Sheet) (lots counts : List ℕ)

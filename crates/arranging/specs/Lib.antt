@@ -1,3 +1,2 @@
 pub mod Arranging
-pub mod EachLaws
 pub mod Parts

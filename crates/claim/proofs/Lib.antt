@@ -1,1 +1,2 @@
 pub mod Replaying
+pub mod ClaimLaws

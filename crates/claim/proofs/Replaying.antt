@@ -1,6 +1,6 @@
 -- A list of calls, made one after the other: the sheet at hand is what the run of the calls made so far leaves.
 use mathlib.Core.Bool.{Bool, cond, not}
-use mathlib.Core.List.{List}
+use mathlib.Core.List.{List, [], ◌∷◌, ◌++◌}
 use mathlib.Core.Path.{◌≡◌, refl, sym, ap, ap₂, ◌∙◌}
 use Prim.Native.Nat.{ℕ, ◌+◌, ◌≤◌, ◌<◌}
 use native.Mathlib.Numerals.{add-one}
@@ -16,8 +16,15 @@ use Rattle.drawing.specs.declared.Framed.TheVariants.{Frame, Refused}
 use Rattle.drawing.specs.Drawing.{Sheet, accepted, layout}
 use Rattle.stretching.specs.Stretching.{lengthen, shorten}
 use Rattle.holding.specs.Holding.{hold}
-use Rattle.claim.specs.Claim.{Lengthen, Shorten, Hold, Call, make, run}
-use Rattle.claim.specs.Replay.{call_of, calls_to, after, run_last, Replayed}
+use Rattle.claim.specs.Claim.{Single, Lengthen, Shorten, Hold, Call, One, make, leaves, run}
+use Rattle.claim.specs.Replay.{call_of, calls_to, after, Replayed}
+use Rattle.claim.proofs.ClaimLaws.{run_append}
+
+module _ (L : Limits) (P R : List ℕ) (rule : Rule) where
+  pub run_last : (s : Sheet) (cs : List Call) (c : Single)
+      → run L P R rule s (cs ++ (One c ∷ [])) ≡ (make L P R rule (run L P R rule s cs) c).left
+  unfolding run leaves
+  run_last s cs c = run_append L P R rule s cs (One c ∷ [])
 
 module _ (L : Limits) (P R : List ℕ) (rule : Rule) (s : Sheet) (work v c : ℕ) where
   -- what is left of the call that two tests of the kind choose

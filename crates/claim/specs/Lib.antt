@@ -1,3 +1,2 @@
 pub mod Claim
-pub mod ClaimLaws
 pub mod Replay

@@ -11,7 +11,6 @@ use Rattle.slopes.specs.declared.Rule.{Rule}
 use Rattle.drawing.specs.declared.Framed.{Framed}
 use Rattle.drawing.specs.Drawing.{Sheet, accepted, layout}
 use Rattle.claim.specs.Claim.{Single, Lengthen, Shorten, Hold, Call, One, make, leaves, run}
-use Rattle.claim.specs.ClaimLaws.{run_append}
 
 unfoldable pub call_of : ℕ → ℕ → ℕ → ℕ → Single
 call_of kind v c work =
@@ -24,11 +23,6 @@ calls_to K N C work (suc m) = calls_to K N C work m ++ (One (call_of (get_or K m
 module _ (L : Limits) (P R : List ℕ) (rule : Rule) where
   unfoldable pub after : Outcome Framed Sheet → List Call → Sheet
   after o calls = cond (accepted o.answer) (run L P R rule o.left calls) o.left
-
-  pub run_last : (s : Sheet) (cs : List Call) (c : Single)
-      → run L P R rule s (cs ++ (One c ∷ [])) ≡ (make L P R rule (run L P R rule s cs) c).left
-  unfolding run leaves
-  run_last s cs c = run_append L P R rule s cs (One c ∷ [])
 
 -- the reply is layout's, and the lists are what the run leaves
 pub record Replayed (L : Limits) (P R : List ℕ) (rule : Rule) (s : Sheet) (work : ℕ) (K N C : List ℕ)

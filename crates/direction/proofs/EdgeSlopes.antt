@@ -7,7 +7,7 @@ use lib.ListN.{length}
 use Rattle.slopes.specs.declared.Rule.{Rule}
 use Rattle.slopes.specs.declared.Slope.{Slope}
 use Rattle.slopes.specs.Slopes.{edge}
-use Rattle.slopes.specs.SlopeLaws.{edge-size}
+use Rattle.slopes.proofs.SlopeLaws.{edge-size}
 use Rattle.direction.specs.Parts.{LargeTree, SmallSlope}
 
 pub small-edge : {P R W : List ℕ} → LargeTree P R W → (rule : Rule) {z : ℕ} → 0 < z → z < length P → {s : Slope}

@@ -9,7 +9,7 @@ use lib.ListN.{length, get_or}
 use borrow.Author.Tests.{leb-true, le-leb}
 use Rattle.laws.specs.Tests.{same_test}
 use Rattle.table.specs.Table.{under, post_number, first_number}
-use Rattle.table.specs.Numbering.{in_subtree}
+use Rattle.table.proofs.NumberingLaws.{in_subtree}
 use Rattle.direction.specs.Parts.{LargeTree, TwoNodes}
 
 module _ {P R W : List ℕ} (ordered : LargeTree P R W) {a z : ℕ} (pair : TwoNodes P a z) {k first last : ℕ}

@@ -4,3 +4,6 @@ pub mod Signs32
 pub mod EdgeSlopes
 pub mod Headings
 pub mod Replies
+pub mod DirectionLaws
+pub mod NoCrossing
+pub mod RisingPaths

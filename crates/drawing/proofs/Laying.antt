@@ -6,7 +6,7 @@ use native.Mathlib.Omega.{arith}
 use lib.ListN.{length, get_or, set, length-set}
 use lib.Seq.{ext_get_or}
 use Rattle.laws.specs.Regions.{read_set}
-use Rattle.table.specs.Numbering.{numbering, root_last}
+use Rattle.table.proofs.NumberingLaws.{numbering, root_last}
 use Rattle.table.specs.Table.{parent, post_number}
 use Rattle.table.specs.TableLaws.{Tree}
 use Rattle.slopes.specs.declared.Rule.{Rule}

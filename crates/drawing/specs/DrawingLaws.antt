@@ -20,7 +20,7 @@ use Rattle.table.specs.Table.{parent}
 use Rattle.table.specs.TableLaws.{Tree}
 use Rattle.slopes.specs.declared.Rule.{Rule}
 use Rattle.slopes.specs.declared.Slope.{Slope}
-use Rattle.slopes.specs.SlopeLaws.{edge_positive}
+use Rattle.slopes.proofs.SlopeLaws.{edge_positive}
 use Rattle.slopes.specs.Slopes.{across_of, up_of, edge}
 use Rattle.drawing.specs.Drawing.{Drawing, largest, placed, node_fits}
 use Rattle.drawing.specs.PathLaws.{Adds, adds_le}

@@ -14,13 +14,13 @@ use Rattle.std.proofs.Math.ListN.{length-replicate, get_or-replicate}
 use Rattle.laws.specs.SearchLaws.{length-tabulate, get_d_tabulate}
 use Rattle.laws.specs.Sums.{sum}
 use Rattle.table.specs.declared.Limits.{Limits}
-use Rattle.table.specs.Numbering.{numbering}
+use Rattle.table.proofs.NumberingLaws.{numbering}
 use Rattle.table.specs.Table.{large, small}
 use Rattle.table.specs.TableLaws.{Tree}
 use Rattle.slopes.specs.declared.Rule.{Rule}
 use Rattle.slopes.specs.declared.Rule.TheVariants.{Steep, Balanced}
 use Rattle.slopes.specs.declared.Slope.{Slope}
-use Rattle.slopes.specs.SlopeLaws.{levels_for-least, across_bound, up_bound, across_sum, up_sum}
+use Rattle.slopes.proofs.SlopeLaws.{levels_for-least, across_bound, up_bound, across_sum, up_sum}
 use Rattle.slopes.specs.Slopes.{across_of, up_of, levels_for, slope_at, edge}
 use Rattle.drawing.specs.Drawing.{path_sum, fresh_places, fresh}
 use Rattle.drawing.specs.DrawingLaws.{Coordinate, Drawn}

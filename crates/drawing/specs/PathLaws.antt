@@ -21,7 +21,7 @@ use Rattle.laws.specs.SearchLaws.{get_d_tabulate}
 use Rattle.laws.specs.Sums.{sum, sum_term}
 use Rattle.laws.specs.Tests.{by_eq}
 use Rattle.table.specs.Ancestry.{climb-zero, climb-suc, climb_shift, climb-inside, under_steps, under-inside}
-use Rattle.table.specs.Numbering.{numbering, root_last}
+use Rattle.table.proofs.NumberingLaws.{numbering, root_last}
 use Rattle.table.specs.Table.{parent, climb, under, post_number}
 use Rattle.table.specs.TableLaws.{Tree}
 use Rattle.drawing.specs.Drawing.{sum_up, path_sum}

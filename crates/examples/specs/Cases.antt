@@ -27,7 +27,7 @@ use Rattle.numbers.specs.PostNumbers.{Spans, spans, spans_of, post_numbers}
 use Rattle.slopes.specs.declared.Rule.{Rule}
 use Rattle.slopes.specs.declared.Rule.TheVariants.{Steep, Balanced}
 use Rattle.slopes.specs.declared.Slope.{Slope}
-use Rattle.slopes.specs.SlopeLaws.{levels_for_is, across_bound, up_bound}
+use Rattle.slopes.proofs.SlopeLaws.{levels_for_is, across_bound, up_bound}
 use Rattle.slopes.specs.Slopes.{levels, level_numbers, flat, upright, level_at, levels_for, slope_at, edge}
 use Rattle.slopes.specs.Ten.{◌over◌}
 use Rattle.drawing.specs.declared.Framed.{Framed}
@@ -46,7 +46,7 @@ use Rattle.aligning.specs.AlignLaws.{Obstacle, obstacle_none, beyond-none}
 use Rattle.aligning.specs.declared.Aligned.{Aligned}
 use Rattle.aligning.specs.declared.Aligned.TheVariants as aligned
 use Rattle.tallest.specs.Tallest.{Table, table_of, chain_of, steep_frame, lent_fault, tallest}
-use Rattle.tallest.specs.TallestLaws.{tallest_answers}
+use Rattle.tallest.proofs.TallestLaws.{tallest_answers}
 use Rattle.window.specs.declared.View.{View}
 use Rattle.window.specs.declared.View.TheVariants as view
 use Rattle.window.specs.Window as window
@@ -55,8 +55,8 @@ use Rattle.direction.specs.declared.Heading.TheVariants.{Along}
 use Rattle.direction.specs.Direction.{sideways, heading, pair_fault, direction}
 use Rattle.monotone.specs.declared.Verdict.{Verdict}
 use Rattle.monotone.specs.declared.Verdict.TheVariants.{Monotone, Turns}
-use Rattle.monotone.specs.Decision.{widen, span, upward, downward, path_vectors, turns_at, second_node, first_node, decide}
-use Rattle.monotone.specs.Decision.{decide_says}
+use Rattle.monotone.proofs.Decision.{widen, span, upward, downward, path_vectors, turns_at, second_node, first_node, decide}
+use Rattle.monotone.proofs.Decision.{decide_says}
 use Rattle.monotone.specs.Monotone.{check_fault, Says}
 use Rattle.monotone.specs.Monotone as monotone
 use Rattle.treefile.specs.TreeFile.{word_at, words, stated_nodes, file_parents, file_ranks, open_fault}

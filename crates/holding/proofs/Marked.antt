@@ -15,8 +15,9 @@ use Rattle.drawing.specs.declared.Framed.{Framed}
 use Rattle.drawing.specs.declared.Framed.TheVariants as framed
 use Rattle.drawing.specs.Drawing.{Sheet, sheet_of, frame, OnSheet}
 use Rattle.drawing.specs.Parts.{Framable, FramesFit, framable}
-use Rattle.stretching.specs.CallLaws.{Examined, examined}
-use Rattle.stretching.specs.Parts.{Examining}
+use Rattle.stretching.specs.Calls.{Examined}
+use Rattle.stretching.proofs.CallLaws.{examined}
+use Rattle.stretching.proofs.Openings.{Examining}
 use Rattle.holding.specs.Holding.{entry, marked, hold}
 
 module _ {L : Limits} {P R : List ℕ} (rule : Rule) {s : Sheet} {W X : List ℕ} {r : Validity} (v : ℕ)

@@ -11,7 +11,8 @@ use borrow.Author.Tests.{lt-leb, le-leb, eqb-true}
 use Rattle.laws.specs.Search.{least}
 use Rattle.laws.specs.SearchLaws.{least_is}
 use Rattle.laws.specs.Tests.{by_test, by_eq, differ}
-use Rattle.table.specs.Numbering.{numbering, root_last, Numbers}
+use Rattle.table.specs.Numbering.{Numbers}
+use Rattle.table.proofs.NumberingLaws.{numbering, root_last}
 use Rattle.table.specs.Table.{parent, post_number}
 use Rattle.table.specs.TableLaws.{Tree}
 use Rattle.slopes.specs.declared.Rule.{Rule}

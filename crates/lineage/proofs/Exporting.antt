@@ -18,7 +18,7 @@ use Rattle.drawing.specs.Drawing.{Sheet}
 use Rattle.arranging.specs.Arranging.{lists_fault, lengthen_each}
 use Rattle.arranging.specs.declared.Arranged.{Arranged}
 use Rattle.arranging.specs.declared.Arranged.TheVariants.{Frame, Refused}
-use Rattle.arranging.specs.EachLaws.{each_place}
+use Rattle.arranging.proofs.EachLaws.{each_place}
 use Rattle.replies.specs.Replies.{Short, Near}
 
 few : (P R : List ℕ) (work : ℕ) (b : Option Refusal) → table_fault large P R true work or_else b ≡ none

@@ -13,7 +13,8 @@ use Rattle.laws.specs.SearchLaws.{least-none}
 use Rattle.table.specs.Acceptance.{Accepting, accepting, two_long, not_spared, validity-accepted, validity_refused}
 use Rattle.table.specs.declared.Limits.{Limits}
 use Rattle.table.specs.declared.Validity.TheVariants.{Accepted, Refused}
-use Rattle.table.specs.Numbering.{Numbering, Numbered, numbering, number_at}
+use Rattle.table.specs.Numbering.{Numbering, Numbered}
+use Rattle.table.proofs.NumberingLaws.{numbering, number_at}
 use Rattle.table.specs.Table.{order, post_number, all_long, shape_fault, table_fault, large, farthest}
 use Rattle.table.specs.Parts.{Validated, ready}
 use Rattle.monotone.specs.declared.Verdict.{Verdict}

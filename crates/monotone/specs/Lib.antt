@@ -4,5 +4,3 @@ pub mod Plane
 pub mod PathEdges
 pub mod Cones
 pub mod Parts
-pub mod Decision
-pub mod Examples

@@ -15,8 +15,8 @@ use Rattle.laws.specs.Tests.{by_lt}
 use Rattle.table.specs.Acceptance.{accepting}
 use Rattle.table.specs.declared.Counted.TheVariants.{Nodes, Refused}
 use Rattle.table.specs.declared.Limits.{Limits}
-use Rattle.table.specs.Numbering.{numbering, number_start, first_child, leaf_number, first_is, in_subtree}
-use Rattle.table.specs.Postorder.{child_at_lem}
+use Rattle.table.proofs.NumberingLaws.{numbering, number_start, first_child, leaf_number, first_is, in_subtree}
+use Rattle.table.proofs.Postorder.{child_at_lem}
 use Rattle.table.specs.Table.{under, children, child_at, post_number, first_number, table_fault}
 use Rattle.table.specs.TableLaws.{Tree}
 use Rattle.numbers.specs.PostNumbers.{Spans, both_long, spans_of, post_numbers}

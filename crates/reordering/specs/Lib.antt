@@ -1,3 +1,2 @@
 pub mod Reordering
-pub mod ReorderLaws
 pub mod EachOrder

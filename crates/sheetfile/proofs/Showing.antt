@@ -22,7 +22,7 @@ use Rattle.drawing.specs.Drawing.{Sheet, lengths_fit, lent, fresh, fresh_places,
 use Rattle.drawing.specs.SheetLaws.{Long, long_fits}
 use Rattle.treefile.specs.TreeFile.{stated_nodes, Read}
 use Rattle.text.specs.Text.{sheet_of, Appended}
-use Rattle.text.specs.TextLaws.{appended_is}
+use Rattle.text.proofs.TextLaws.{appended_is}
 use Rattle.text.specs.Parts.{places_of, Lines}
 use Rattle.sheetfile.specs.SheetFile.{places_of_table, sheet_text, lots_in}
 use Rattle.sheetfile.specs.SheetFileLaws.{Opening, opening, parents_long, ranks_long, Taken, accepted_text}

@@ -9,8 +9,8 @@ use native.Mathlib.Omega.{arith}
 use lib.Bits.{bit_and, and_mask}
 use lib.Pow.{pow_mono}
 use Rattle.slopes.specs.declared.Slope.{Slope}
-use Rattle.slopes.specs.Descent.{descent, Ends, ends_below, descent_is, descent_right, descent_left}
-use Rattle.slopes.specs.LevelLaws.{Part, across_part, up_part}
+use Rattle.slopes.proofs.Descent.{descent, Ends, ends_below, descent_is, descent_right, descent_left}
+use Rattle.slopes.proofs.LevelLaws.{Part, across_part, up_part}
 use Rattle.slopes.specs.Slopes.{across_of, up_of, ◌⊕◌, flat, upright, fraction_at}
 
 pub record Walk (k t j : ℕ) (low high : Slope) (bit : ℕ) : Type 0 where

@@ -17,8 +17,9 @@ use Rattle.table.specs.Parts.{Tested, fault, no_fault, refused_later}
 use Rattle.slopes.specs.declared.Rule.{Rule}
 use Rattle.drawing.specs.Drawing.{Sheet, sheet_fault}
 use Rattle.inspecting.specs.Parts.{Inspecting}
-use Rattle.stretching.specs.CallLaws.{edge_none}
-use Rattle.stretching.specs.Parts.{free_fault, Examining, Unheld}
+use Rattle.stretching.proofs.CallLaws.{edge_none}
+use Rattle.stretching.specs.Parts.{free_fault}
+use Rattle.stretching.proofs.Openings.{Examining, Unheld}
 use Rattle.stretching.specs.Stretching.{edge_fault, lot_fault, is_held, stretch_fault}
 
 -- once a test passes, the rest of the refusals is what the next one says

@@ -1,3 +1,7 @@
 pub mod Examining
 pub mod Subtrees
 pub mod Outcomes
+pub mod StretchLaws
+pub mod CallLaws
+pub mod Openings
+pub mod HeldLaws

@@ -25,12 +25,15 @@ use Rattle.drawing.specs.Drawing.{Drawing, lent, Sheet, sheet_of, frame, OnSheet
 use Rattle.drawing.specs.DrawingLaws.{Coordinate, Drawn, drawn_times, same_drawing}
 use Rattle.drawing.specs.Parts.{FramesFit}
 use Rattle.inspecting.specs.Parts.{Inspecting}
-use Rattle.stretching.specs.CallLaws.{Examined, free, beyond_x, beyond_y, no_beyond, longer_drawn, shorter_drawn}
-use Rattle.stretching.specs.CallLaws.{lengthen_made}
-use Rattle.stretching.specs.Parts.{by, free_fault, Unheld, Passes, Movable, Stretchable, Opened, framing}
+use Rattle.stretching.specs.Calls.{Examined}
+use Rattle.stretching.proofs.CallLaws.{free, beyond_x, beyond_y, no_beyond, longer_drawn, shorter_drawn}
+use Rattle.stretching.proofs.CallLaws.{lengthen_made}
+use Rattle.stretching.specs.Parts.{by, free_fault, Passes, Movable, Stretchable, Opened, framing}
+use Rattle.stretching.proofs.Openings.{Unheld}
 use Rattle.stretching.specs.Stretching.{moved, stretched, beyond, lot_fault, stretch_fault, lengthen, shorten}
-use Rattle.stretching.specs.StretchLaws.{shorter, longer, Moved, offset_in, moved_in, moved_out}
-use Rattle.stretching.specs.StretchLaws.{longer_stretch, back_room}
+use Rattle.stretching.specs.Stretches.{shorter, longer, Moved}
+use Rattle.stretching.proofs.StretchLaws.{offset_in, moved_in, moved_out}
+use Rattle.stretching.proofs.StretchLaws.{longer_stretch, back_room}
 use Rattle.stretching.proofs.Examining.{on_sheet_lem}
 
 ------------------------------------------------------------------------

@@ -9,11 +9,12 @@ use lib.ListN.{length, get_or, set, length-set}
 use lib.Seq.{ext_get_or}
 use Rattle.laws.specs.Regions.{read_set}
 use Rattle.laws.specs.Tests.{by_test, by_eq, differ}
-use Rattle.table.specs.Numbering.{numbering, number_at, first_is, in_subtree, NumberedTree}
+use Rattle.table.specs.Numbering.{NumberedTree}
+use Rattle.table.proofs.NumberingLaws.{numbering, number_at, first_is, in_subtree}
 use Rattle.table.specs.Table.{under, order, post_number, first_number}
 use Rattle.stretching.specs.Stretching.{moved}
 use Rattle.stretching.specs.Parts.{by, Passes, Movable}
-use Rattle.stretching.specs.StretchLaws.{moved_long, moved_in, moved_out}
+use Rattle.stretching.proofs.StretchLaws.{moved_long, moved_in, moved_out}
 
 -- the nodes of v's subtree up to number j are passed, those up to `last` are left
 pub record Walk (P R W : List ℕ) (v last j : ℕ) : Type 0 where

@@ -1,5 +1,4 @@
 pub mod Stretching
-pub mod StretchLaws
-pub mod CallLaws
-pub mod HeldLaws
+pub mod Stretches
+pub mod Calls
 pub mod Parts

@@ -9,7 +9,6 @@
 --   Stretchable ..         == v's edge can be made longer, or shorter
 --   Opened L .. s W        == the sheet s is accepted, and W numbers its table
 --   framing r t            == the outcome of a call that leaves t: refused, or else with its frame
---   opened, opened_after   == a sheet that 1 to 8 accept is so opened, and so is what lengthen leaves of it
 use Rattle.std.specs.Prelude.{Bool, true, false, List, ◌≡◌, refl, ℕ, ◌+◌, ◌-◌, ◌*◌, ◌^◌, ◌≤◌, ◌<◌, eqb, length, get_or}
 use Rattle.std.proofs.Math.Option.{Option}
 use Rattle.std.proofs.Common.{ap, ◌∙◌}
@@ -30,7 +29,6 @@ use Rattle.drawing.specs.Drawing.{Drawing, Sheet, lengths_fit, frame}
 use Rattle.drawing.specs.Parts.{SizedSheet}
 use Rattle.drawing.specs.SheetLaws.{Sound}
 use Rattle.inspecting.specs.Parts.{Inspecting}
-use Rattle.stretching.specs.CallLaws.{lengthen_sound}
 use Rattle.stretching.specs.Stretching.{edge_fault, lot_fault, stretch_fault, lengthen}
 
 abbrev pub by : Bool → ℕ → ℕ → ℕ
@@ -70,27 +68,6 @@ pub record Opened (L : Limits) (P R : List ℕ) (rule : Rule) (s : Sheet) (W : L
   pub inspected : Inspected L P R rule s (length W)
   pub numbered : NumberedTree P R W
 
-pub opened : {L : Limits} {P R : List ℕ} {rule : Rule} {s : Sheet} {W X : List ℕ} {r : Validity}
-    → Inspecting L P R rule s W X r → r ≡ Accepted → Opened L P R rule s X
-opened {L} {P} {R} {rule} {s} {W} p ok = record {
-  inspected = subst⁻¹ (Inspected L P R rule s) p.long (inspected L P R rule s (length W) (no_fault p ok));
-  numbered = (p.left ok).sized.numbered;
-}
-
 unfoldable pub framing : Validity → Sheet → Outcome Framed Sheet
 framing Accepted t = record { answer = frame t.drawing; left = t }
 framing (Refused k z) t = record { answer = framed.Refused k z; left = t }
-
-pub opened_after : {L : Limits} {P R : List ℕ} {rule : Rule} {s : Sheet} {W : List ℕ} → Opened L P R rule s W
-    → (v c : ℕ) (a : Validity) (t : Sheet) → framing a t ≡ lengthen L P R rule s (length W) v c → Opened L P R rule t W
-unfolding framing
-opened_after {L} {P} {R} {rule} {s} {W} o v c a t did = record {
-  inspected = inspected L P R rule t (length W) (inspected_again o.inspected
-      (subst⁻¹ (Sound L.place P R rule) (left a ∙ ap (λ (q : Outcome Framed Sheet). q.left) did)
-      (lengthen_sound L P R rule s (length W) v c o.inspected.sound)));
-  numbered = o.numbered;
-}
-  where
-    left : (a : Validity) → t ≡ (framing a t).left
-    left Accepted = refl
-    left (Refused k z) = refl

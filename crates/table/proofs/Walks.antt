@@ -8,9 +8,10 @@ use Rattle.laws.specs.Regions.{Only, read_set, only_refl, only_set, only_store}
 use Rattle.laws.specs.Sums.{sum, sum_more}
 use Rattle.laws.specs.Tests.{by_eq, by_lt}
 use Rattle.table.specs.Children.{child_at_only, slot, slot_below, slot_once}
-use Rattle.table.specs.Numbering.{Numbered, numbering, number_at, root_last, number_start, last_child}
-use Rattle.table.specs.Numbering.{next_child, first_child, leaf_number, first_is}
-use Rattle.table.specs.Postorder.{size, start, child_at_lem, number_is, place_of_number, start_root}
+use Rattle.table.specs.Numbering.{Numbered}
+use Rattle.table.proofs.NumberingLaws.{numbering, number_at, root_last, number_start, last_child}
+use Rattle.table.proofs.NumberingLaws.{next_child, first_child, leaf_number, first_is}
+use Rattle.table.proofs.Postorder.{size, start, child_at_lem, number_is, place_of_number, start_root}
 use Rattle.table.specs.Table.{parent, rank, children, child_at, order, post_number, first_number}
 use Rattle.table.specs.TableLaws.{Tree, tree_nodes, tree_ranked}
 use Rattle.table.specs.Parts.{Ready, Seated, Leftmost, Next, Visited}

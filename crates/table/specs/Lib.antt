@@ -5,7 +5,6 @@ pub mod Children
 pub mod TableLaws
 pub mod Ancestry
 pub mod Acceptance
-pub mod Postorder
 pub mod Numbering
 pub mod Parts
 pub mod Examples

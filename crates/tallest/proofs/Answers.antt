@@ -15,9 +15,9 @@ use Rattle.slopes.specs.declared.Rule.TheVariants.{Steep}
 use Rattle.drawing.specs.declared.Framed.{Framed}
 use Rattle.drawing.specs.declared.Framed.TheVariants.{Frame, Refused}
 use Rattle.drawing.specs.FreshLaws.{large_roomy}
-use Rattle.tallest.specs.ChainLaws.{tallest_height}
+use Rattle.tallest.proofs.ChainLaws.{tallest_height}
 use Rattle.tallest.specs.Tallest.{Table, table_of, chain_of, steep_frame, lent_fault, tallest}
-use Rattle.tallest.specs.TallestLaws.{tallest_answers}
+use Rattle.tallest.proofs.TallestLaws.{tallest_answers}
 
 -- the limits L that the code has are the large ones
 module _ (n : ℕ) (s : Table) {L : Limits} (is : L ≡ large) where

@@ -1,2 +1,4 @@
 pub mod Hanging
 pub mod Answers
+pub mod ChainLaws
+pub mod TallestLaws

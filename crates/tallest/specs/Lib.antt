@@ -1,3 +1,1 @@
 pub mod Tallest
-pub mod ChainLaws
-pub mod TallestLaws

@@ -1,2 +1,3 @@
 pub mod Spelling
 pub mod Listing
+pub mod TextLaws

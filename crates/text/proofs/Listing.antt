@@ -6,7 +6,7 @@ use native.Mathlib.Omega.{arith}
 use lib.ListN.{length, get_or, take, length-append}
 use lib.Seq.{take-suc, take_all}
 use Rattle.text.specs.Text.{field, Places, lot_line, lot_lines, sheet_of, sheet_word, Appended}
-use Rattle.text.specs.TextLaws.{length-field, length-lot_lines, appended_none, appended_on, appended_is}
+use Rattle.text.proofs.TextLaws.{length-field, length-lot_lines, appended_none, appended_on, appended_is}
 use Rattle.text.specs.Parts.{line_of, title_of, Lines}
 
 ------------------------------------------------------------------------

@@ -8,8 +8,8 @@ use native.Mathlib.Omega.{arith}
 use lib.ListN.{length, length-append}
 use Rattle.laws.specs.Tests.{by_lt}
 use Rattle.text.specs.Text.{decimal, Appended}
-use Rattle.text.specs.TextLaws.{decimal-one, decimal_last, length-decimal, appended_none, appended_on}
-use Rattle.text.specs.TextLaws.{appended_is}
+use Rattle.text.proofs.TextLaws.{decimal-one, decimal_last, length-decimal, appended_none, appended_on}
+use Rattle.text.proofs.TextLaws.{appended_is}
 use Rattle.text.specs.Parts.{Power, Unit}
 
 ------------------------------------------------------------------------

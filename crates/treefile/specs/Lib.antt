@@ -1,3 +1,2 @@
 pub mod TreeFile
-pub mod FileLaws
 pub mod Parts

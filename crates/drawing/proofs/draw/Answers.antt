@@ -1,6 +1,6 @@
 -- The nodes with numbers above j are drawn.
 use native.Mathlib.Omega.{arith}
-use Rattle.slopes.specs.Backward.{backward_start, backward_edge, backward_ready, backward_step}
+use Rattle.slopes.proofs.Backward.{backward_start, backward_edge, backward_ready, backward_step}
 use Rattle.drawing.proofs.Laying.{laying_start, laying_x, laying_y, laying_step, laying_end}
 use Rattle.drawing.proofs.draw.Goals as goal
 

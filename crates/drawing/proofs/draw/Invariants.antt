@@ -1,6 +1,6 @@
 -- The nodes with numbers above j are drawn.
 use Rattle.drawing.specs.Drawing.{lent}
-use Rattle.slopes.specs.Backward.{Backward}
+use Rattle.slopes.proofs.Backward.{Backward}
 use Rattle.drawing.proofs.Laying.{Laying}
 use Rattle.drawing.proofs.draw.Given as goal
 

@@ -1,6 +1,6 @@
 -- Every node with a number above j fits.
 use native.Mathlib.Omega.{arith}
-use Rattle.slopes.specs.Backward.{backward_start, backward_edge, backward_ready, backward_step}
+use Rattle.slopes.proofs.Backward.{backward_start, backward_edge, backward_ready, backward_step}
 use Rattle.inspecting.proofs.Fitting.{above_start, above_step, above_not, above_end}
 use Rattle.inspecting.proofs.all_fit.Goals as goal
 

@@ -1,6 +1,6 @@
 -- Every node with a number above j fits.
 use Rattle.drawing.specs.Drawing.{lent}
-use Rattle.slopes.specs.Backward.{Backward}
+use Rattle.slopes.proofs.Backward.{Backward}
 use Rattle.inspecting.proofs.Fitting.{FitAbove}
 use Rattle.inspecting.proofs.all_fit.Given as goal
 

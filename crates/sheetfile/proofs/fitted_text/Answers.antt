@@ -1,6 +1,6 @@
 -- A refusal is printed; an accepted table is laid out under both rules.
 use mathlib.Core.Path.{sym, ◌∙◌}
-use Rattle.text.specs.TextLaws.{appended_is}
+use Rattle.text.proofs.TextLaws.{appended_is}
 use Rattle.sheetfile.specs.SheetFileLaws.{refused_text, taken}
 use Rattle.sheetfile.proofs.Showing.{drawn_fresh, times_long, held_long, both_lines, both_shown}
 use Rattle.sheetfile.proofs.Showing.{at_limits}

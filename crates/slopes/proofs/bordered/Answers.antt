@@ -3,7 +3,8 @@ use mathlib.Core.Path.{◌≡◌, sym, ap, ◌∙◌}
 use Prim.Native.Nat.{ℕ, ◌*◌, ◌%◌, ◌^◌, ◌≤◌}
 use native.Mathlib.Omega.{arith}
 use lib.Pow.{shl_exact}
-use Rattle.slopes.specs.Neighbours.{bordered, bordered_last, bordered_is}
+use Rattle.slopes.specs.Neighbours.{bordered}
+use Rattle.slopes.proofs.NeighbourLaws.{bordered_last, bordered_is}
 use Rattle.slopes.specs.Slopes.{flat, upright}
 use Rattle.slopes.proofs.bordered.Goals as goal
 

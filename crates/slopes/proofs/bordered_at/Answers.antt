@@ -5,7 +5,7 @@ use Prim.Native.Nat.{ℕ}
 use native.Mathlib.Omega.{arith}
 use Rattle.slopes.specs.declared.Rule.{Rule}
 use Rattle.slopes.specs.Neighbours.{bordered, bordered_at}
-use Rattle.slopes.specs.SlopeLaws.{levels_for-least, levels_for_enough}
+use Rattle.slopes.proofs.SlopeLaws.{levels_for-least, levels_for_enough}
 use Rattle.slopes.specs.Slopes.{flat, upright}
 use Rattle.slopes.proofs.bordered_at.Goals as goal
 

@@ -2,7 +2,7 @@
 -- are the bits of the position from `bit` down to the one above the lowest 1. The measure is `bit`.
 use native.Mathlib.Omega.{arith}
 use mathlib.Core.Path.{◌∙◌}
-use Rattle.slopes.specs.Descent.{trailing_ends, ends_below}
+use Rattle.slopes.proofs.Descent.{trailing_ends, ends_below}
 use Rattle.slopes.proofs.Walk.{walk_start, walk_fits, walk_right, walk_left, walk_end}
 use Rattle.slopes.proofs.descend.Goals as goal
 

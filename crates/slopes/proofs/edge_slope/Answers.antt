@@ -1,8 +1,8 @@
 -- The work list holds v's post number, and the rule's slope at that number is the edge's.
 use mathlib.Core.Path.{◌∙◌}
 use native.Mathlib.Omega.{arith}
-use Rattle.table.specs.Numbering.{edge_number}
-use Rattle.slopes.specs.SlopeLaws.{edge_is}
+use Rattle.table.proofs.NumberingLaws.{edge_number}
+use Rattle.slopes.proofs.SlopeLaws.{edge_is}
 use Rattle.slopes.proofs.edge_slope.Goals as goal
 
 pub slope_at-requires : goal.slope_at-requires

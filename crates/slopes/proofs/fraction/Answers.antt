@@ -4,7 +4,7 @@ use Prim.Native.Nat.{◌-◌, ◌*◌, ◌%◌, ◌^◌}
 use native.Mathlib.Nat.{mod-eq_of_lt}
 use native.Mathlib.Omega.{arith}
 use Rattle.slopes.specs.Rows.{ten_at}
-use Rattle.slopes.specs.TenLaws.{ten_holds, ten_walk}
+use Rattle.slopes.proofs.TenLaws.{ten_holds, ten_walk}
 use Rattle.slopes.proofs.fraction.Goals as goal
 
 pub ten_at-requires : goal.ten_at-requires

@@ -5,7 +5,7 @@ use Prim.Native.Nat.{ℕ}
 use native.Mathlib.Nat.{lt_of_lt_of_le}
 use Rattle.slopes.specs.declared.Rule.{Rule}
 use Rattle.slopes.specs.Slopes.{fraction_at, slope_at}
-use Rattle.slopes.specs.SlopeLaws.{levels_for-least, levels_for_enough}
+use Rattle.slopes.proofs.SlopeLaws.{levels_for-least, levels_for_enough}
 use Rattle.slopes.proofs.slope_at.Goals as goal
 
 pub fraction-s-requires : goal.fraction-s-requires

@@ -1,6 +1,6 @@
 -- `slopes::slope_before` meets its contract: the steep slope as it is defined; of a balanced one the two neighbours sum
 -- to a multiple.
-use Rattle.slopes.specs.Neighbours.{steep-step, fits_across, fits_up, balanced-step}
+use Rattle.slopes.proofs.NeighbourLaws.{steep-step, fits_across, fits_up, balanced-step}
 use Rattle.slopes.proofs.slope_before.Goals as goal
 
 pub part_before-requires : goal.part_before-requires

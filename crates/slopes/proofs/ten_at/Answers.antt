@@ -1,6 +1,6 @@
 -- The position's row, in it the number that holds the slope, and in that its two bytes.
 use borrow.Author.Rules.{rules}
-use Rattle.slopes.specs.TenLaws.{row_slope}
+use Rattle.slopes.proofs.TenLaws.{row_slope}
 use Rattle.slopes.proofs.ten_at.Goals as goal
 
 pub returns : goal.returns

@@ -1,6 +1,6 @@
 -- The descent finds the slope, and its level is k less the zeros that end the position, which are fewer than k.
 use native.Mathlib.Omega.{arith}
-use Rattle.slopes.specs.Descent.{zeros_below, position_level}
+use Rattle.slopes.proofs.Descent.{zeros_below, position_level}
 use Rattle.slopes.proofs.walk_to.Goals as goal
 
 pub returns : goal.returns

@@ -1,7 +1,7 @@
 -- Refusals 1 to 8, then lengthen on an accepted sheet, then its frame.
 use mathlib.Core.Path.{refl}
 use Rattle.drawing.specs.Parts.{framable}
-use Rattle.stretching.specs.Parts.{opened, opened_after}
+use Rattle.stretching.proofs.Openings.{opened, opened_after}
 use Rattle.stretching.proofs.Outcomes.{sheet_refused, edge_refused, edge-longer}
 use Rattle.stretching.proofs.lengthen_within.Goals as goal
 

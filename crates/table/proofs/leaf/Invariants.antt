@@ -1,5 +1,5 @@
 -- The subtrees on the way down start with the same node, and shrink.
-use Rattle.table.specs.Postorder.{size}
+use Rattle.table.proofs.Postorder.{size}
 use Rattle.table.proofs.Walks.{Descending}
 use Rattle.table.proofs.leaf.Given as goal
 

@@ -1,5 +1,5 @@
 -- The order stands at 3n of the work list.
-use Rattle.table.specs.Numbering.{numbered_node}
+use Rattle.table.proofs.NumberingLaws.{numbered_node}
 use Rattle.table.proofs.node_at.Goals as goal
 
 pub returns : goal.returns

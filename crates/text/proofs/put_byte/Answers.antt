@@ -1,5 +1,5 @@
 -- One store.
-use Rattle.text.specs.TextLaws.{appended_byte}
+use Rattle.text.proofs.TextLaws.{appended_byte}
 use Rattle.text.proofs.put_byte.Goals as goal
 
 pub returns : goal.returns

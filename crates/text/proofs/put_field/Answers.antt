@@ -1,7 +1,7 @@
 -- The number, then the byte.
 use native.Mathlib.Omega.{arith}
 use Rattle.text.specs.Text.{field}
-use Rattle.text.specs.TextLaws.{length-decimal, length-field, appended_on}
+use Rattle.text.proofs.TextLaws.{length-decimal, length-field, appended_on}
 use Rattle.text.proofs.put_field.Goals as goal
 
 pub put_byte-requires : goal.put_byte-requires

@@ -1,6 +1,6 @@
 -- The word, then two numbers.
 use Rattle.text.specs.Text.{refusal_of}
-use Rattle.text.specs.TextLaws.{appended_on}
+use Rattle.text.proofs.TextLaws.{appended_on}
 use Rattle.text.proofs.put_refusal.Goals as goal
 
 pub returns : goal.returns

@@ -1,5 +1,5 @@
 -- The word, then the number.
-use Rattle.text.specs.TextLaws.{appended_on}
+use Rattle.text.proofs.TextLaws.{appended_on}
 use Rattle.text.specs.Parts.{title_of}
 use Rattle.text.proofs.put_title.Goals as goal
 

@@ -5,7 +5,7 @@ use native.Mathlib.Omega.{arith}
 use lib.IntN.{pos}
 use lib.Ieee.{binary64, div, of_int}
 use Rattle.window.specs.Window.{Exact}
-use Rattle.window.specs.WindowLaws.{exact_quotient}
+use Rattle.window.proofs.WindowLaws.{exact_quotient}
 use Rattle.window.proofs.Sides.{side}
 use Rattle.window.proofs.scaled.Goals as goal
 

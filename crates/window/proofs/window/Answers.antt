@@ -2,7 +2,7 @@
 use mathlib.Core.Path.{◌∙◌}
 use Rattle.laws.specs.Tests.{both_is}
 use Rattle.window.specs.Window.{inside, Says}
-use Rattle.window.specs.WindowLaws.{within_says}
+use Rattle.window.proofs.WindowLaws.{within_says}
 use Rattle.window.proofs.Sides.{tested, outside_across, outside_up, too_wide, no_wider}
 use Rattle.window.proofs.window.Goals as goal
 

@@ -34,10 +34,12 @@ use Rattle.drawing.specs.Drawing.{Drawing, Sheet, lengths_fit, fresh_sheet, fram
 use Rattle.drawing.specs.DrawingLaws.{Coordinate, Drawn, drawn_one}
 use Rattle.drawing.specs.PathLaws.{adds_le}
 use Rattle.drawing.specs.SheetLaws.{Sound}
-use Rattle.stretching.specs.CallLaws.{Free, free_again, no_beyond, accepted-free, accepted_stretches}
-use Rattle.stretching.specs.CallLaws.{lengthen_made, lengthen_0}
+use Rattle.stretching.specs.Calls.{Free}
+use Rattle.stretching.proofs.CallLaws.{free_again, no_beyond, accepted-free, accepted_stretches}
+use Rattle.stretching.proofs.CallLaws.{lengthen_made, lengthen_0}
 use Rattle.stretching.specs.Stretching.{lengthen}
-use Rattle.stretching.specs.StretchLaws.{longer, Moved, Stretch, stretch_counts, longer_stretch, stretch_adds}
+use Rattle.stretching.specs.Stretches.{longer, Moved, Stretch}
+use Rattle.stretching.proofs.StretchLaws.{stretch_counts, longer_stretch, stretch_adds}
 use Rattle.reordering.specs.Reordering.{Lengthening, made, all_accepted, after, Alike, AnyOrder}
 
 ------------------------------------------------------------------------

@@ -7,8 +7,8 @@ use Rattle.monotone.specs.declared.Verdict.{Verdict}
 use Rattle.monotone.specs.declared.Verdict.TheVariants.{Monotone, Turns, Refused}
 use Rattle.monotone.specs.Monotone.{place_beyond, check_fault, Says}
 use Rattle.monotone.specs.MonotoneLaws.{says_one}
-use Rattle.monotone.specs.Decision.{widen, span, upward, downward, path_vectors, turns_at, second_node, first_node}
-use Rattle.monotone.specs.Decision.{decide, decide_says}
+use Rattle.monotone.proofs.Decision.{widen, span, upward, downward, path_vectors, turns_at, second_node, first_node}
+use Rattle.monotone.proofs.Decision.{decide, decide_says}
 
 pub record Case : Type 0 where
   pub parents : List ℕ

@@ -27,7 +27,7 @@ use Rattle.slopes.specs.declared.Rule.{Rule}
 use Rattle.drawing.specs.declared.Framed.{Framed}
 use Rattle.drawing.specs.declared.Framed.TheVariants as framed
 use Rattle.drawing.specs.Drawing.{Sheet, lengths_fit, frame, accepted}
-use Rattle.stretching.specs.CallLaws.{accepted_stretches}
+use Rattle.stretching.proofs.CallLaws.{accepted_stretches}
 use Rattle.stretching.specs.Stretching.{lengthen}
 use Rattle.arranging.specs.declared.Arranged.{Arranged}
 use Rattle.arranging.specs.declared.Arranged.TheVariants.{Frame, Refused}

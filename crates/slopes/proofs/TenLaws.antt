@@ -6,8 +6,9 @@ use Rattle.std.specs.Prelude.{Bool, true, ◌&&◌, List, [], ◌∷◌, ◌≡�
 use Rattle.std.proofs.Common.{sym, ap, ◌∙◌, mul-le-mul_right, mul-lt-mul_of_pos_right, arith, pow_pos, pow-add, get_or-take, get_or-drop, eqb-true}
 use Rattle.laws.specs.Tests.{both}
 use Rattle.slopes.specs.declared.Slope.{Slope}
-use Rattle.slopes.specs.LevelLaws.{levels-length}
-use Rattle.slopes.specs.Neighbours.{bordered, bordered_is, bordered_stride}
+use Rattle.slopes.proofs.LevelLaws.{levels-length}
+use Rattle.slopes.specs.Neighbours.{bordered}
+use Rattle.slopes.proofs.NeighbourLaws.{bordered_is, bordered_stride}
 use Rattle.slopes.specs.Rows.{ten_at, row_of, in_four, slopes_in}
 use Rattle.slopes.specs.Slopes.{levels, flat, upright, fraction_at}
 use Rattle.slopes.specs.Ten.{ten}

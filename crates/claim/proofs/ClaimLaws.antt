@@ -38,17 +38,18 @@ use Rattle.drawing.specs.DrawingLaws.{Coordinate, step_of}
 use Rattle.drawing.specs.FreshLaws.{Roomy, large_roomy, small_roomy, fresh_once}
 use Rattle.drawing.specs.PathLaws.{adds_path, path_cong}
 use Rattle.drawing.specs.SheetLaws.{Sound}
-use Rattle.stretching.specs.CallLaws.{Untouched, Stretching, lengthen_does, shorten_does}
+use Rattle.stretching.specs.Calls.{Untouched, Stretching}
+use Rattle.stretching.proofs.CallLaws.{lengthen_does, shorten_does}
 use Rattle.stretching.specs.Stretching.{is_held, lengthen, shorten}
-use Rattle.stretching.specs.StretchLaws.{stretch_counts}
+use Rattle.stretching.proofs.StretchLaws.{stretch_counts}
 use Rattle.holding.specs.Holding.{entry, hold}
-use Rattle.holding.specs.HoldLaws.{Marking, hold_does, held_here, held_others}
+use Rattle.holding.proofs.HoldLaws.{Marking, hold_does, held_here, held_others}
 use Rattle.arranging.specs.Arranging.{each_fault, in_turn, lengthen_each}
 use Rattle.arranging.specs.declared.Arranged.{Arranged}
 use Rattle.arranging.specs.declared.Arranged.TheVariants.{Refused}
 use Rattle.direction.specs.declared.Heading.TheVariants.{Along}
 use Rattle.direction.specs.Direction.{direction}
-use Rattle.direction.specs.DirectionLaws.{direction_rises, edges_apart}
+use Rattle.direction.proofs.DirectionLaws.{direction_rises, edges_apart}
 use Rattle.monotone.specs.declared.Verdict.{Verdict}
 use Rattle.monotone.specs.declared.Verdict.TheVariants.{Monotone}
 use Rattle.monotone.specs.Monotone.{HasDirection, place_beyond, check_fault, Says}
@@ -309,7 +310,7 @@ module _ (L : Limits) (fit : LimitsFit L) (P R : List ℕ) (rule : Rule) (long :
       ∙ path_cong tree (step_of P R rule part t.times) (λ z. part (edge P R rule z) * length_of L P R rule s calls z)
       (λ z a m. ap (λ (k : ℕ). k * part (edge P R rule z)) (long_as z m) ∙ mul_comm _ _) v l
 
-  stands : Rattle.direction.specs.RisingPaths.DrawnAlong P (edge P R rule) (λ v. get_or t.times v 0) t.x t.y
+  stands : Rattle.direction.proofs.RisingPaths.DrawnAlong P (edge P R rule) (λ v. get_or t.times v 0) t.x t.y
   unfolding t edge
   stands = record {
     times_from_1 = λ v a l. r.sound.drawn.some v l;

@@ -18,17 +18,17 @@ use Rattle.table.specs.TableLaws.{Tree}
 use Rattle.table.specs.Acceptance.{accepting, table_number}
 use Rattle.table.specs.Ancestry.{climb-zero, under_antisym, steps_up_way, zero-steps_up, steps_up_self, steps_up_siblings}
 use Rattle.table.specs.Ancestry.{siblings_ranks}
-use Rattle.table.specs.Numbering.{numbering}
+use Rattle.table.proofs.NumberingLaws.{numbering}
 use Rattle.table.specs.Paths.{PathRises, SharePoint, CommonEnd}
 use Rattle.slopes.specs.declared.Rule.{Rule}
 use Rattle.slopes.specs.declared.Slope.{Slope}
 use Rattle.slopes.specs.Slopes.{slope_at, edge}
-use Rattle.slopes.specs.SlopeLaws.{slope_positive, slope_increasing}
+use Rattle.slopes.proofs.SlopeLaws.{slope_positive, slope_increasing}
 use Rattle.direction.specs.declared.Heading.{Heading}
 use Rattle.direction.specs.declared.Heading.TheVariants.{Along, Refused}
 use Rattle.direction.specs.Direction.{sideways, heading, course, pair_fault, direction, Directed}
-use Rattle.direction.specs.RisingPaths.{Rising, DrawnAlong, rising_paths}
-use Rattle.direction.specs.NoCrossing.{no_crossing}
+use Rattle.direction.proofs.RisingPaths.{Rising, DrawnAlong, rising_paths}
+use Rattle.direction.proofs.NoCrossing.{no_crossing}
 
 ------------------------------------------------------------------------
 -- The answer

@@ -22,7 +22,7 @@ use Rattle.table.specs.Ancestry.{steps_up_is, steps_up_some, steps_up_siblings}
 use Rattle.table.specs.Paths.{PathRises, SharePoint, CommonEnd}
 use Rattle.table.specs.PathLaws.{path_back, height, rises_height, along-height, along-start, share_back, end_back}
 use Rattle.slopes.specs.declared.Slope.{Slope}
-use Rattle.direction.specs.RisingPaths.{Rising, DrawnAlong, rising_paths}
+use Rattle.direction.proofs.RisingPaths.{Rising, DrawnAlong, rising_paths}
 
 ------------------------------------------------------------------------
 -- Heights

@@ -21,8 +21,8 @@ use Rattle.std.proofs.lemmas.Nat.{mod-pow-add}
 use Rattle.std.proofs.Math.Pow.{mod-mod-pow}
 use Rattle.laws.specs.Tests.{by_test, by_eq, by_lt}
 use Rattle.slopes.specs.declared.Slope.{Slope}
-use Rattle.slopes.specs.LevelLaws.{◌∈◌, level, one-level, levels_left, levels_middle, levels_right}
-use Rattle.slopes.specs.LevelLaws.{numbers_left, numbers_middle, numbers_right}
+use Rattle.slopes.proofs.LevelLaws.{◌∈◌, level, one-level, levels_left, levels_middle, levels_right}
+use Rattle.slopes.proofs.LevelLaws.{numbers_left, numbers_middle, numbers_right}
 use Rattle.slopes.specs.Slopes.{◌⊕◌, levels, level_numbers, flat, upright, fraction_at, level_at}
 
 abbrev pub bit_of : ℕ → ℕ → ℕ

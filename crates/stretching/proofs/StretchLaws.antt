@@ -1,9 +1,5 @@
--- Lengthen and shorten as one move: the longer drawing has d more at every place of v's subtree, and c more times at v.
+-- A stretched drawing: longer and shorter drawings are stretches, and each determines the other.
 --
---   longer, shorter .. s v c == the drawing that lengthen, or shorten, makes of s
---   offset P v d z          == what v's subtree is moved by, at z: d in the subtree, 0 outside
---   Moved P v d X Y         == Y is the coordinate X with v's subtree moved on by d
---   Stretch P R rule v c s t == t is the drawing s with v's edge c times its slope longer
 --   stretch_counts          == a stretched edge gets the count, and no other anything
 --   stretch_adds            == a coordinate of the longer drawing adds up its steps if that of the other does
 --   longer_stretch, shorter_stretch == lengthen takes s to t, and shorten t to s
@@ -17,7 +13,7 @@ use Rattle.std.proofs.Math.Seq.{get_or-set_same, get_or-set_other}
 use Rattle.laws.specs.SearchLaws.{length-tabulate, get_d_tabulate}
 use Rattle.laws.specs.Tests.{by_test, by_eq, differ}
 use Rattle.table.specs.Ancestry.{under_refl, under_parent, under_trans, under_antisym, under_root, under_on}
-use Rattle.table.specs.Numbering.{numbering}
+use Rattle.table.proofs.NumberingLaws.{numbering}
 use Rattle.table.specs.Table.{parent, under, post_number}
 use Rattle.table.specs.TableLaws.{Tree}
 use Rattle.slopes.specs.declared.Rule.{Rule}
@@ -27,18 +23,7 @@ use Rattle.drawing.specs.Drawing.{Drawing}
 use Rattle.drawing.specs.DrawingLaws.{step_of, Coordinate, Drawn, same_drawing}
 use Rattle.drawing.specs.PathLaws.{Adds, adds-under}
 use Rattle.stretching.specs.Stretching.{moved, stretched}
-
-abbrev pub longer : List ℕ → List ℕ → Rule → Drawing → ℕ → ℕ → Drawing
-longer = stretched ◌+◌
-
-abbrev pub shorter : List ℕ → List ℕ → Rule → Drawing → ℕ → ℕ → Drawing
-shorter = stretched ◌-◌
-
-------------------------------------------------------------------------
--- The subtree's offset
-
-unfoldable pub offset : List ℕ → ℕ → ℕ → ℕ → ℕ
-offset P v d z = cond (under P v z) d 0
+use Rattle.stretching.specs.Stretches.{Moved, Stretch, longer, offset, shorter}
 
 pub offset_in : (P : List ℕ) (v d z : ℕ) → under P v z ≡ true → offset P v d z ≡ d
 unfolding offset
@@ -84,14 +69,6 @@ module _ {P R : List ℕ} (tree : Tree P R) where
         (λ t. offset_in P v d z t ∙ sym (offset_in P v d (parent P z) (under_on tree v z lz t ne)))
         (λ f. offset_out P v d z f ∙ sym (offset_out P v d (parent P z) (outside_on v z lv lz f))),
   )
-
-------------------------------------------------------------------------
--- Moved coordinates
-
-pub record Moved (P : List ℕ) (v d : ℕ) (X Y : List ℕ) : Type 0 where
-  pub from_long : length X ≡ length P
-  pub to_long : length Y ≡ length P
-  pub at : (z : ℕ) → z < length P → get_or Y z 0 ≡ get_or X z 0 + offset P v d z
 
 pub moved_long : (P : List ℕ) (move : ℕ → ℕ) (v : ℕ) (X : List ℕ) → length (moved P move v X) ≡ length P
 unfolding moved
@@ -162,17 +139,6 @@ module _ {P R : List ℕ} (tree : Tree P R) {v d : ℕ} (av : 0 < v) (lv : v < l
     root = sym root_same ∙ a.root;
     at = λ z az lz. omega (arith, m.at z lz, m.at (parent P z) (tree.inside z lz), balance z az lz, a.at z az lz);
   }
-
-------------------------------------------------------------------------
--- Stretched drawings
-
-pub record Stretch (P R : List ℕ) (rule : Rule) (v c : ℕ) (s t : Drawing) : Type 0 where
-  pub from_long : length s.times ≡ length P
-  pub to_long : length t.times ≡ length P
-  pub here : get_or t.times v 0 ≡ get_or s.times v 0 + c
-  pub other : (z : ℕ) → z < length P → (z ≡ v → ⊥) → get_or t.times z 0 ≡ get_or s.times z 0
-  pub x : Moved P v (c * across_of (edge P R rule v)) s.x t.x
-  pub y : Moved P v (c * up_of (edge P R rule v)) s.y t.y
 
 module _ {P R : List ℕ} {rule : Rule} {v c : ℕ} where
   pub longer_stretch : {limit : ℕ} {s : Drawing} → Drawn limit P R rule s → v < length P

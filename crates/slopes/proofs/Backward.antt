@@ -7,7 +7,8 @@ use Rattle.std.proofs.Math.Path.{ap}
 use Rattle.table.specs.Numbering.{NumberedTree, Numbers}
 use Rattle.slopes.specs.declared.Rule.{Rule}
 use Rattle.slopes.specs.declared.Slope.{Slope}
-use Rattle.slopes.specs.Neighbours.{bordered_at, Neighbours, neighbours_slope}
+use Rattle.slopes.specs.Neighbours.{bordered_at, Neighbours}
+use Rattle.slopes.proofs.NeighbourLaws.{neighbours_slope}
 use Rattle.slopes.specs.Slopes.{slope_at, edge}
 
 pub record Backward (P R : List ℕ) (rule : Rule) (W : List ℕ) (j : ℕ) (here after : Slope) : Type 0 where

@@ -22,12 +22,12 @@ use Rattle.laws.specs.Sums.{sum, sum-zero, sum_more, sum_term, count_few}
 use Rattle.laws.specs.Tests.{by_eq, by_lt}
 use Rattle.table.specs.Ancestry.{climb_shift, climb-inside}
 use Rattle.table.specs.Children.{child_of, child_test, child_at_only}
-use Rattle.table.specs.Numbering.{numbering, last_child, root_last, number_at}
+use Rattle.table.proofs.NumberingLaws.{numbering, last_child, root_last, number_at}
 use Rattle.table.specs.Table.{parent, rank, climb, is_child, children, child_at, order, post_number}
 use Rattle.table.specs.TableLaws.{Tree, tree_ranked}
 use Rattle.slopes.specs.declared.Rule.TheVariants.{Steep}
 use Rattle.slopes.specs.declared.Slope.{Slope}
-use Rattle.slopes.specs.SlopeLaws.{steep_across_sum, steep_up_sum}
+use Rattle.slopes.proofs.SlopeLaws.{steep_across_sum, steep_up_sum}
 use Rattle.slopes.specs.Slopes.{across_of, up_of, slope_at}
 use Rattle.drawing.specs.declared.Framed.TheVariants.{Frame}
 use Rattle.drawing.specs.Drawing.{path_sum, fresh_places, fresh, largest, frame}

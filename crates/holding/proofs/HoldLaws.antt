@@ -23,8 +23,9 @@ use Rattle.drawing.specs.declared.Framed.{Framed}
 use Rattle.drawing.specs.declared.Framed.TheVariants.{Frame, Refused}
 use Rattle.drawing.specs.Drawing.{Sheet, sheet_of, frame, redrawn}
 use Rattle.drawing.specs.SheetLaws.{Sound, held_set}
-use Rattle.stretching.specs.CallLaws.{Untouched, Examined, examined, examined_again}
-use Rattle.stretching.specs.HeldLaws.{lengthen_held, shorten_held}
+use Rattle.stretching.specs.Calls.{Untouched, Examined}
+use Rattle.stretching.proofs.CallLaws.{examined, examined_again}
+use Rattle.stretching.proofs.HeldLaws.{lengthen_held, shorten_held}
 use Rattle.stretching.specs.Stretching.{lot_fault, is_held, lengthen, shorten}
 use Rattle.holding.specs.Holding.{entry, marked, hold}
 

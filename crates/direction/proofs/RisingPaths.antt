@@ -28,7 +28,7 @@ use Rattle.table.specs.Paths.{Rises, PathRises}
 use Rattle.table.specs.PathLaws.{rises_by, path_back}
 use Rattle.slopes.specs.declared.Slope.{Slope}
 use Rattle.slopes.specs.Slopes.{◌⊕◌}
-use Rattle.slopes.specs.LevelLaws.{Below}
+use Rattle.slopes.proofs.LevelLaws.{Below}
 use Rattle.direction.specs.declared.Heading.TheVariants.{Along}
 use Rattle.direction.specs.Direction.{sideways, heading}
 

@@ -10,15 +10,15 @@ use Rattle.laws.specs.Search.{least}
 use Rattle.laws.specs.SearchLaws.{least_le, least_passes, least-found}
 use Rattle.laws.specs.Sums.{sum, sum_cong}
 use Rattle.laws.specs.Tests.{by_lt}
-use Rattle.table.specs.Numbering.{numbering}
+use Rattle.table.proofs.NumberingLaws.{numbering}
 use Rattle.table.specs.Table.{parent, post_number}
 use Rattle.table.specs.TableLaws.{Tree}
 use Rattle.slopes.specs.declared.Rule.{Rule}
 use Rattle.slopes.specs.declared.Rule.TheVariants.{Steep, Balanced}
 use Rattle.slopes.specs.declared.Slope.{Slope}
-use Rattle.slopes.specs.LevelLaws.{Below, Adjacent, Linked, levels_linked, levels-length, get_d_in, sum-total}
-use Rattle.slopes.specs.LevelLaws.{linked_positive, linked_increasing, linked_adjacent}
-use Rattle.slopes.specs.LevelLaws.{Part, across_part, up_part, levels-sum, levels-size}
+use Rattle.slopes.proofs.LevelLaws.{Below, Adjacent, Linked, levels_linked, levels-length, get_d_in, sum-total}
+use Rattle.slopes.proofs.LevelLaws.{linked_positive, linked_increasing, linked_adjacent}
+use Rattle.slopes.proofs.LevelLaws.{Part, across_part, up_part, levels-sum, levels-size}
 use Rattle.slopes.specs.Slopes.{across_of, up_of, levels, flat, upright, fraction_at, levels_for, slope_at, edge}
 
 ------------------------------------------------------------------------

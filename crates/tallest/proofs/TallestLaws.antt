@@ -19,8 +19,8 @@ use Rattle.drawing.specs.declared.Framed.{Framed}
 use Rattle.drawing.specs.declared.Framed.TheVariants.{Frame, Refused}
 use Rattle.drawing.specs.CallLaws.{refused_no_frame}
 use Rattle.drawing.specs.Drawing.{Sheet, lengths_fit, fresh, fresh_sheet, frame, layout}
-use Rattle.tallest.specs.ChainLaws.{tallest_height, chain_frame, frame-within, tall_chain, chain_long}
-use Rattle.tallest.specs.ChainLaws.{chain_parent, chain_rank, chain_tree, chain_chain}
+use Rattle.tallest.proofs.ChainLaws.{tallest_height, chain_frame, frame-within, tall_chain, chain_long}
+use Rattle.tallest.proofs.ChainLaws.{chain_parent, chain_rank, chain_tree, chain_chain}
 use Rattle.tallest.specs.Tallest.{Table, chain_of, steep_frame, lent_fault, tallest, Chain}
 
 chain_of-frame : (n : ℕ) → 0 < n → steep_frame (chain_of n) ≡ Frame n (tallest_height n)

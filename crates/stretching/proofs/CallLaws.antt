@@ -1,10 +1,5 @@
 -- What refusals 1 to 10 and 22 leave, and what lengthen and shorten do.
 --
---   Examined L ..               == what refusals 1 to 10 leave
---   Free L ..                   == what refusals 1 to 10 and 22 leave
---   Untouched s o               == the outcome o of a call on s is a refusal
---   Stretching L .. v c s t o   == the outcome o of a call is its frame, and of s and t, the shorter and the longer
---                                  drawing, one was given and the other is left; v's edge is free, and held as it was
 --   lengthen_does, shorten_does == lengthen and shorten refuse or stretch
 --   lengthen_sound              == what lengthen leaves of a sheet is one
 --   lengthen-accepted, ..       == what an accepted one was given, and what it left
@@ -36,16 +31,10 @@ use Rattle.drawing.specs.DrawingLaws.{Drawn}
 use Rattle.drawing.specs.CallLaws.{settled, Inspected, inspected, inspected_again}
 use Rattle.drawing.specs.SheetLaws.{Sound}
 use Rattle.stretching.specs.Stretching.{beyond, edge_fault, lot_fault, is_held, stretch_fault, lengthen, shorten}
-use Rattle.stretching.specs.StretchLaws.{shorter, longer, Stretch, longer_stretch, shorter_stretch, stretch_drawn}
-use Rattle.stretching.specs.StretchLaws.{unstretch_drawn, stretch_one, unstretch_one, stretch_0}
-
-------------------------------------------------------------------------
--- Refusals 8 to 11, and 22
-
-pub record Examined (L : Limits) (P R : List ℕ) (rule : Rule) (s : Sheet) (work v : ℕ) : Type 0 where
-  pub inspected : Inspected L P R rule s work
-  pub above : 0 < v
-  pub inside : v < length P
+use Rattle.stretching.specs.Stretches.{shorter, longer, Stretch}
+use Rattle.stretching.proofs.StretchLaws.{longer_stretch, shorter_stretch, stretch_drawn}
+use Rattle.stretching.proofs.StretchLaws.{unstretch_drawn, stretch_one, unstretch_one, stretch_0}
+use Rattle.stretching.specs.Calls.{Examined, Free, Stretching, Untouched}
 
 -- 9 and 10 by themselves
 pub edge_none : (n v : ℕ) → edge_fault n v ≡ none → (0 < v) × (v < n)
@@ -72,10 +61,6 @@ examined_again {P = P} {v = v} x a =
     or_else_second _ _ (inspected_again x.inspected a)
     ∙ or_else_second _ _ (refuse_no _ 9 0 (lt-leb (length P) v x.inside))
     ∙ refuse_no _ 10 0 (ne_eqb v 0 (λ e. omega arith))
-
-pub record Free (L : Limits) (P R : List ℕ) (rule : Rule) (s : Sheet) (work v : ℕ) : Type 0 where
-  pub examined : Examined L P R rule s work v
-  pub free : is_held s v ≡ false
 
 pub free : (L : Limits) (P R : List ℕ) (rule : Rule) (s : Sheet) (work v : ℕ)
     → stretch_fault L P R rule s work v ≡ none → Free L P R rule s work v
@@ -119,25 +104,6 @@ module _ (limit n : ℕ) (t : Drawing) where
 
   pub beyond_y : (z : ℕ) → z < n → limit < get_or t.y z 0 → beyond limit n t ≡ true
   beyond_y z l h = beyond-at z l (either_second (ltb limit (get_or t.x z 0)) _ (lt-ltb limit (get_or t.y z 0) h))
-
-------------------------------------------------------------------------
--- What the calls do
-
-pub record Untouched (s : Sheet) (o : Outcome Framed Sheet) : Type 0 where
-  pub number : ℕ
-  pub node : ℕ
-  pub answer : o.answer ≡ Refused number node
-  pub left : o.left ≡ s
-
-pub record Stretching (L : Limits) (P R : List ℕ) (rule : Rule) (v c : ℕ) (H : List ℕ) (s t : Drawing)
-    (o : Outcome Framed Sheet) : Type 0 where
-  pub above : 0 < v
-  pub inside : v < length P
-  pub free : eqb (get_or H v 0) 1 ≡ false
-  pub answer : o.answer ≡ frame o.left.drawing
-  pub sound : Sound L.place P R rule o.left
-  pub held : o.left.held ≡ H
-  pub stretch : Stretch P R rule v c s t
 
 module _ (L : Limits) (P R : List ℕ) (rule : Rule) (s : Sheet) (work v c : ℕ) where
   abbrev on : Drawing

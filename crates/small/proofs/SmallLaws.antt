@@ -22,9 +22,9 @@ use Rattle.drawing.specs.declared.Framed.{Framed}
 use Rattle.drawing.specs.declared.Framed.TheVariants.{Refused}
 use Rattle.drawing.specs.Drawing.{Sheet, sheet_of, lengths_fit, fresh_sheet, frame, placed, node_fits, lot_fits}
 use Rattle.drawing.specs.Drawing.{sheet_fault, redrawn, layout}
-use Rattle.stretching.specs.CallLaws.{beyond_no, no_beyond}
+use Rattle.stretching.proofs.CallLaws.{beyond_no, no_beyond}
 use Rattle.stretching.specs.Stretching.{beyond, edge_fault, lot_fault, is_held, stretch_fault, lengthen, shorten}
-use Rattle.stretching.specs.StretchLaws.{shorter, longer}
+use Rattle.stretching.specs.Stretches.{shorter, longer}
 use Rattle.holding.specs.Holding.{marked, hold}
 use Rattle.small.specs.Small.{Narrower, Near, Stays, Same}
 

@@ -24,10 +24,11 @@ use Rattle.drawing.specs.declared.Framed.{Framed}
 use Rattle.drawing.specs.declared.Framed.TheVariants.{Frame, Refused}
 use Rattle.drawing.specs.Drawing.{Drawing, Sheet, sheet_of, lengths_fit, node_fits, lot_fits, sheet_fault, redrawn}
 use Rattle.drawing.specs.SheetLaws.{Held, held_fits_lem}
-use Rattle.stretching.specs.CallLaws.{lengthen-accepted, shorten-accepted}
+use Rattle.stretching.proofs.CallLaws.{lengthen-accepted, shorten-accepted}
 use Rattle.stretching.specs.Stretching.{beyond, edge_fault, lot_fault, is_held, stretch_fault, lengthen, shorten}
-use Rattle.stretching.specs.StretchLaws.{shorter, longer, Moved, Stretch, offset_in, longer_stretch}
-use Rattle.stretching.specs.StretchLaws.{shorter_stretch}
+use Rattle.stretching.specs.Stretches.{shorter, longer, Moved, Stretch}
+use Rattle.stretching.proofs.StretchLaws.{offset_in, longer_stretch}
+use Rattle.stretching.proofs.StretchLaws.{shorter_stretch}
 
 ------------------------------------------------------------------------
 -- 22

@@ -1,0 +1,2 @@
+pub mod ReorderLaws
+pub mod EachOrderLaws

@@ -1,0 +1,47 @@
+-- A sheet that refusals 1 to 8 accept is opened, and so is what lengthen leaves of it.
+--
+--   opened, opened_after   == a sheet that 1 to 8 accept is so opened, and so is what lengthen leaves of it
+use Rattle.std.specs.Prelude.{Bool, true, false, List, ◌≡◌, refl, ℕ, ◌+◌, ◌-◌, ◌*◌, ◌^◌, ◌≤◌, ◌<◌, eqb, length, get_or}
+use Rattle.std.proofs.Math.Option.{Option}
+use Rattle.std.proofs.Common.{ap, ◌∙◌}
+use Rattle.std.proofs.Math.Path.{subst⁻¹}
+use Rattle.laws.specs.Search.{Refusal, refuse, ◌or_else◌, Outcome}
+use Rattle.table.specs.declared.Limits.{Limits}
+use Rattle.table.specs.declared.Validity.{Validity}
+use Rattle.table.specs.declared.Validity.TheVariants.{Accepted, Refused}
+use Rattle.table.specs.Numbering.{NumberedTree}
+use Rattle.table.specs.Parts.{Tested, no_fault}
+use Rattle.table.specs.Table.{under}
+use Rattle.slopes.specs.declared.Rule.{Rule}
+use Rattle.slopes.specs.Slopes.{across_of, up_of, edge}
+use Rattle.drawing.specs.CallLaws.{Inspected, inspected, inspected_again}
+use Rattle.drawing.specs.declared.Framed.{Framed}
+use Rattle.drawing.specs.declared.Framed.TheVariants as framed
+use Rattle.drawing.specs.Drawing.{Drawing, Sheet, lengths_fit, frame}
+use Rattle.drawing.specs.Parts.{SizedSheet}
+use Rattle.drawing.specs.SheetLaws.{Sound}
+use Rattle.inspecting.specs.Parts.{Inspecting}
+use Rattle.stretching.proofs.CallLaws.{lengthen_sound}
+use Rattle.stretching.specs.Stretching.{edge_fault, lot_fault, stretch_fault, lengthen}
+use Rattle.stretching.specs.Parts.{Movable, Opened, Passes, Stretchable, by, framing, free_fault, module@42}
+
+pub opened : {L : Limits} {P R : List ℕ} {rule : Rule} {s : Sheet} {W X : List ℕ} {r : Validity}
+    → Inspecting L P R rule s W X r → r ≡ Accepted → Opened L P R rule s X
+opened {L} {P} {R} {rule} {s} {W} p ok = record {
+  inspected = subst⁻¹ (Inspected L P R rule s) p.long (inspected L P R rule s (length W) (no_fault p ok));
+  numbered = (p.left ok).sized.numbered;
+}
+
+pub opened_after : {L : Limits} {P R : List ℕ} {rule : Rule} {s : Sheet} {W : List ℕ} → Opened L P R rule s W
+    → (v c : ℕ) (a : Validity) (t : Sheet) → framing a t ≡ lengthen L P R rule s (length W) v c → Opened L P R rule t W
+unfolding framing
+opened_after {L} {P} {R} {rule} {s} {W} o v c a t did = record {
+  inspected = inspected L P R rule t (length W) (inspected_again o.inspected
+      (subst⁻¹ (Sound L.place P R rule) (left a ∙ ap (λ (q : Outcome Framed Sheet). q.left) did)
+      (lengthen_sound L P R rule s (length W) v c o.inspected.sound)));
+  numbered = o.numbered;
+}
+  where
+    left : (a : Validity) → t ≡ (framing a t).left
+    left Accepted = refl
+    left (Refused k z) = refl
