@@ -17,7 +17,7 @@ use Rattle.slopes.specs.Slopes.{edge}
 use Rattle.drawing.specs.Drawing.{Sheet}
 use Rattle.stretching.specs.Calls.{Examined}
 use Rattle.stretching.proofs.CallLaws.{examined, examined_again}
-use Rattle.stretching.proofs.Openings.{Examining}
+use Rattle.stretching.specs.Parts.{Examining}
 use Rattle.stretching.specs.Stretching.{beyond}
 use Rattle.stretching.specs.Stretches.{longer}
 use Rattle.aligning.specs.Aligning.{Says, Aligns}

@@ -17,7 +17,7 @@ use Rattle.drawing.specs.Drawing.{Sheet, sheet_of, frame, OnSheet}
 use Rattle.drawing.specs.Parts.{Framable, FramesFit, framable}
 use Rattle.stretching.specs.Calls.{Examined}
 use Rattle.stretching.proofs.CallLaws.{examined}
-use Rattle.stretching.proofs.Openings.{Examining}
+use Rattle.stretching.specs.Parts.{Examining}
 use Rattle.holding.specs.Holding.{entry, marked, hold}
 
 module _ {L : Limits} {P R : List ℕ} (rule : Rule) {s : Sheet} {W X : List ℕ} {r : Validity} (v : ℕ)

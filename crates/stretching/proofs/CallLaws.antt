@@ -8,7 +8,7 @@
 --   lengthen_made               == of a free edge, where no place goes too far, lengthen is accepted
 --   shorten_undoes              == shorten undoes lengthen
 --   lengthen_0, shorten_0       == of a free edge count 0 changes nothing and is no ground for a refusal
-use Rattle.std.specs.Prelude.{Bool, false, ◌||◌, List, ◌⊎◌, ◌≡◌, ℕ, ◌≤◌, ◌<◌, ltb, leb, eqb}
+use Rattle.std.specs.Prelude.{Bool, false, ◌||◌, List, ◌⊎◌, ◌≡◌, ℕ, ◌≤◌, ◌<◌, ltb, leb}
 use Rattle.std.proofs.Math.Bool.{true}
 use Rattle.std.proofs.Math.Logic.{inl, inr, ⊎_elim}
 use Rattle.std.proofs.Math.Option.{Option, none, some}
@@ -19,16 +19,15 @@ use Rattle.std.proofs.Math.ListN.{length, get_or}
 use borrow.Author.Tests.{ltb-false, lt-ltb, le-ltb, lt-leb, leb-false, eqb-false, ne_eqb}
 use Rattle.laws.specs.Refusals.{or_else_second, or_else_none, refuse_no, refuse-none}
 use Rattle.laws.specs.Refusals.{settle-none}
-use Rattle.laws.specs.Search.{least, Refusal, refuse, ◌or_else◌, Outcome}
+use Rattle.laws.specs.Search.{least, Refusal, refuse, ◌or_else◌}
 use Rattle.laws.specs.SearchLaws.{least-found, least_is, least-none}
 use Rattle.laws.specs.Tests.{differ, neither, neither_is, either_first, either_second}
 use Rattle.table.specs.declared.Limits.{Limits}
 use Rattle.slopes.specs.declared.Rule.{Rule}
-use Rattle.drawing.specs.declared.Framed.{Framed}
 use Rattle.drawing.specs.declared.Framed.TheVariants.{Frame, Refused}
 use Rattle.drawing.specs.Drawing.{Drawing, Sheet, sheet_of, frame, accepted, sheet_fault, redrawn}
 use Rattle.drawing.specs.DrawingLaws.{Drawn}
-use Rattle.drawing.specs.CallLaws.{settled, Inspected, inspected, inspected_again}
+use Rattle.drawing.specs.CallLaws.{settled, inspected, inspected_again}
 use Rattle.drawing.specs.SheetLaws.{Sound}
 use Rattle.stretching.specs.Stretching.{beyond, edge_fault, lot_fault, is_held, stretch_fault, lengthen, shorten}
 use Rattle.stretching.specs.Stretches.{shorter, longer, Stretch}

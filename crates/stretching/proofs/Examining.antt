@@ -19,7 +19,7 @@ use Rattle.drawing.specs.Drawing.{Sheet, sheet_fault}
 use Rattle.inspecting.specs.Parts.{Inspecting}
 use Rattle.stretching.proofs.CallLaws.{edge_none}
 use Rattle.stretching.specs.Parts.{free_fault}
-use Rattle.stretching.proofs.Openings.{Examining, Unheld}
+use Rattle.stretching.specs.Parts.{Examining, Unheld}
 use Rattle.stretching.specs.Stretching.{edge_fault, lot_fault, is_held, stretch_fault}
 
 -- once a test passes, the rest of the refusals is what the next one says

@@ -1,29 +1,23 @@
 -- A sheet that refusals 1 to 8 accept is opened, and so is what lengthen leaves of it.
 --
 --   opened, opened_after   == a sheet that 1 to 8 accept is so opened, and so is what lengthen leaves of it
-use Rattle.std.specs.Prelude.{Bool, true, false, List, ◌≡◌, refl, ℕ, ◌+◌, ◌-◌, ◌*◌, ◌^◌, ◌≤◌, ◌<◌, eqb, length, get_or}
-use Rattle.std.proofs.Math.Option.{Option}
+use Rattle.std.specs.Prelude.{List, ◌≡◌, refl, ℕ, length}
 use Rattle.std.proofs.Common.{ap, ◌∙◌}
 use Rattle.std.proofs.Math.Path.{subst⁻¹}
-use Rattle.laws.specs.Search.{Refusal, refuse, ◌or_else◌, Outcome}
+use Rattle.laws.specs.Search.{Outcome}
 use Rattle.table.specs.declared.Limits.{Limits}
 use Rattle.table.specs.declared.Validity.{Validity}
 use Rattle.table.specs.declared.Validity.TheVariants.{Accepted, Refused}
-use Rattle.table.specs.Numbering.{NumberedTree}
-use Rattle.table.specs.Parts.{Tested, no_fault}
-use Rattle.table.specs.Table.{under}
+use Rattle.table.specs.Parts.{no_fault}
 use Rattle.slopes.specs.declared.Rule.{Rule}
-use Rattle.slopes.specs.Slopes.{across_of, up_of, edge}
 use Rattle.drawing.specs.CallLaws.{Inspected, inspected, inspected_again}
 use Rattle.drawing.specs.declared.Framed.{Framed}
-use Rattle.drawing.specs.declared.Framed.TheVariants as framed
-use Rattle.drawing.specs.Drawing.{Drawing, Sheet, lengths_fit, frame}
-use Rattle.drawing.specs.Parts.{SizedSheet}
+use Rattle.drawing.specs.Drawing.{Sheet}
 use Rattle.drawing.specs.SheetLaws.{Sound}
 use Rattle.inspecting.specs.Parts.{Inspecting}
 use Rattle.stretching.proofs.CallLaws.{lengthen_sound}
-use Rattle.stretching.specs.Stretching.{edge_fault, lot_fault, stretch_fault, lengthen}
-use Rattle.stretching.specs.Parts.{Movable, Opened, Passes, Stretchable, by, framing, free_fault, module@42}
+use Rattle.stretching.specs.Stretching.{lengthen}
+use Rattle.stretching.specs.Parts.{Opened, framing}
 
 pub opened : {L : Limits} {P R : List ℕ} {rule : Rule} {s : Sheet} {W X : List ℕ} {r : Validity}
     → Inspecting L P R rule s W X r → r ≡ Accepted → Opened L P R rule s X

@@ -29,7 +29,7 @@ use Rattle.stretching.specs.Calls.{Examined}
 use Rattle.stretching.proofs.CallLaws.{free, beyond_x, beyond_y, no_beyond, longer_drawn, shorter_drawn}
 use Rattle.stretching.proofs.CallLaws.{lengthen_made}
 use Rattle.stretching.specs.Parts.{by, free_fault, Passes, Movable, Stretchable, Opened, framing}
-use Rattle.stretching.proofs.Openings.{Unheld}
+use Rattle.stretching.specs.Parts.{Unheld}
 use Rattle.stretching.specs.Stretching.{moved, stretched, beyond, lot_fault, stretch_fault, lengthen, shorten}
 use Rattle.stretching.specs.Stretches.{shorter, longer, Moved}
 use Rattle.stretching.proofs.StretchLaws.{offset_in, moved_in, moved_out}

@@ -5,30 +5,18 @@
 --   Untouched s o               == the outcome o of a call on s is a refusal
 --   Stretching L .. v c s t o   == the outcome o of a call is its frame, and of s and t, the shorter and the longer
 --                                  drawing, one was given and the other is left; v's edge is free, and held as it was
-use Rattle.std.specs.Prelude.{Bool, false, ◌||◌, List, ◌⊎◌, ◌≡◌, ℕ, ◌≤◌, ◌<◌, ltb, leb, eqb}
-use Rattle.std.proofs.Math.Bool.{true}
-use Rattle.std.proofs.Math.Logic.{inl, inr, ⊎_elim}
-use Rattle.std.proofs.Math.Option.{Option, none, some}
-use Rattle.std.proofs.Math.Path.{refl, subst⁻¹}
-use Rattle.std.proofs.Common.{ap, ap₂, subst, ◌∙◌}
-use native.Mathlib.Omega.{arith}
+use Rattle.std.specs.Prelude.{false, List, ◌≡◌, ℕ, ◌<◌, eqb}
 use Rattle.std.proofs.Math.ListN.{length, get_or}
-use borrow.Author.Tests.{ltb-false, lt-ltb, le-ltb, lt-leb, leb-false, eqb-false, ne_eqb}
-use Rattle.laws.specs.Refusals.{or_else_second, or_else_none, refuse_no, refuse-none}
-use Rattle.laws.specs.Refusals.{settle-none}
-use Rattle.laws.specs.Search.{least, Refusal, refuse, ◌or_else◌, Outcome}
-use Rattle.laws.specs.SearchLaws.{least-found, least_is, least-none}
-use Rattle.laws.specs.Tests.{differ, neither, neither_is, either_first, either_second}
+use Rattle.laws.specs.Search.{Outcome}
 use Rattle.table.specs.declared.Limits.{Limits}
 use Rattle.slopes.specs.declared.Rule.{Rule}
 use Rattle.drawing.specs.declared.Framed.{Framed}
-use Rattle.drawing.specs.declared.Framed.TheVariants.{Frame, Refused}
-use Rattle.drawing.specs.Drawing.{Drawing, Sheet, sheet_of, frame, accepted, sheet_fault, redrawn}
-use Rattle.drawing.specs.DrawingLaws.{Drawn}
-use Rattle.drawing.specs.CallLaws.{settled, Inspected, inspected, inspected_again}
+use Rattle.drawing.specs.declared.Framed.TheVariants.{Refused}
+use Rattle.drawing.specs.Drawing.{Drawing, Sheet, frame}
+use Rattle.drawing.specs.CallLaws.{Inspected}
 use Rattle.drawing.specs.SheetLaws.{Sound}
-use Rattle.stretching.specs.Stretching.{beyond, edge_fault, lot_fault, is_held, stretch_fault, lengthen, shorten}
-use Rattle.stretching.specs.Stretches.{shorter, longer, Stretch}
+use Rattle.stretching.specs.Stretching.{is_held}
+use Rattle.stretching.specs.Stretches.{Stretch}
 
 ------------------------------------------------------------------------
 -- Refusals 8 to 11, and 22

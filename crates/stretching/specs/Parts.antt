@@ -9,27 +9,23 @@
 --   Stretchable ..         == v's edge can be made longer, or shorter
 --   Opened L .. s W        == the sheet s is accepted, and W numbers its table
 --   framing r t            == the outcome of a call that leaves t: refused, or else with its frame
-use Rattle.std.specs.Prelude.{Bool, true, false, List, ◌≡◌, refl, ℕ, ◌+◌, ◌-◌, ◌*◌, ◌^◌, ◌≤◌, ◌<◌, eqb, length, get_or}
+use Rattle.std.specs.Prelude.{Bool, true, false, List, ◌≡◌, ℕ, ◌+◌, ◌-◌, ◌*◌, ◌^◌, ◌≤◌, ◌<◌, eqb, length, get_or}
 use Rattle.std.proofs.Math.Option.{Option}
-use Rattle.std.proofs.Common.{ap, ◌∙◌}
-use Rattle.std.proofs.Math.Path.{subst⁻¹}
 use Rattle.laws.specs.Search.{Refusal, refuse, ◌or_else◌, Outcome}
 use Rattle.table.specs.declared.Limits.{Limits}
 use Rattle.table.specs.declared.Validity.{Validity}
 use Rattle.table.specs.declared.Validity.TheVariants.{Accepted, Refused}
 use Rattle.table.specs.Numbering.{NumberedTree}
-use Rattle.table.specs.Parts.{Tested, no_fault}
+use Rattle.table.specs.Parts.{Tested}
 use Rattle.table.specs.Table.{under}
 use Rattle.slopes.specs.declared.Rule.{Rule}
 use Rattle.slopes.specs.Slopes.{across_of, up_of, edge}
-use Rattle.drawing.specs.CallLaws.{Inspected, inspected, inspected_again}
+use Rattle.drawing.specs.CallLaws.{Inspected}
 use Rattle.drawing.specs.declared.Framed.{Framed}
 use Rattle.drawing.specs.declared.Framed.TheVariants as framed
 use Rattle.drawing.specs.Drawing.{Drawing, Sheet, lengths_fit, frame}
 use Rattle.drawing.specs.Parts.{SizedSheet}
-use Rattle.drawing.specs.SheetLaws.{Sound}
-use Rattle.inspecting.specs.Parts.{Inspecting}
-use Rattle.stretching.specs.Stretching.{edge_fault, lot_fault, stretch_fault, lengthen}
+use Rattle.stretching.specs.Stretching.{edge_fault, lot_fault, stretch_fault}
 
 abbrev pub by : Bool → ℕ → ℕ → ℕ
 by true a d = a + d

@@ -4,24 +4,12 @@
 --   offset P v d z          == what v's subtree is moved by, at z: d in the subtree, 0 outside
 --   Moved P v d X Y         == Y is the coordinate X with v's subtree moved on by d
 --   Stretch P R rule v c s t == t is the drawing s with v's edge c times its slope longer
-use Rattle.std.specs.Prelude.{true, false, cond, List, ◌≡◌, refl, ℕ, ◌+◌, ◌-◌, ◌*◌, ◌≤◌, ◌<◌, eqb, length, get_or}
-use Rattle.std.proofs.Math.Path.{sym, subst⁻¹}
-use Rattle.std.proofs.Common.{ap, subst, ◌∙◌, mul-le-mul_right, arith, ext_get_or, eq-eqb, ne_eqb}
-use Rattle.std.proofs.Math.ListN.{length-set}
-use Rattle.std.proofs.Math.Seq.{get_or-set_same, get_or-set_other}
-use Rattle.laws.specs.SearchLaws.{length-tabulate, get_d_tabulate}
-use Rattle.laws.specs.Tests.{by_test, by_eq, differ}
-use Rattle.table.specs.Ancestry.{under_refl, under_parent, under_trans, under_antisym, under_root, under_on}
-use Rattle.table.proofs.NumberingLaws.{numbering}
-use Rattle.table.specs.Table.{parent, under, post_number}
-use Rattle.table.specs.TableLaws.{Tree}
+use Rattle.std.specs.Prelude.{cond, List, ◌≡◌, ℕ, ◌+◌, ◌-◌, ◌*◌, ◌<◌, length, get_or}
+use Rattle.table.specs.Table.{under}
 use Rattle.slopes.specs.declared.Rule.{Rule}
-use Rattle.slopes.specs.declared.Slope.{Slope}
 use Rattle.slopes.specs.Slopes.{across_of, up_of, edge}
 use Rattle.drawing.specs.Drawing.{Drawing}
-use Rattle.drawing.specs.DrawingLaws.{step_of, Coordinate, Drawn, same_drawing}
-use Rattle.drawing.specs.PathLaws.{Adds, adds-under}
-use Rattle.stretching.specs.Stretching.{moved, stretched}
+use Rattle.stretching.specs.Stretching.{stretched}
 
 abbrev pub longer : List ℕ → List ℕ → Rule → Drawing → ℕ → ℕ → Drawing
 longer = stretched ◌+◌

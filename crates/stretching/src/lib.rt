@@ -13,8 +13,7 @@ ghost use Rattle.drawing.specs.DrawingLaws.{Drawn};
 ghost use Rattle.drawing.specs.Parts.{FramesFit};
 ghost use Rattle.stretching.specs.Stretching.{moved, stretched, beyond, edge_fault, lengthen, shorten};
 ghost use Rattle.stretching.specs.Stretches.{longer};
-ghost use Rattle.stretching.specs.Parts.{by, free_fault, Passes, Movable, Stretchable, Opened};
-ghost use Rattle.stretching.proofs.Openings.{Examining, Unheld};
+ghost use Rattle.stretching.specs.Parts.{by, free_fault, Examining, Unheld, Passes, Movable, Stretchable, Opened};
 ghost use Rattle.stretching.specs.Parts.{framing};
 
 use drawing::{Framed, frame_of};

@@ -1,5 +1,4 @@
 -- Lists of one length leave refusals 1 to 8; others 1 to 3, and 19.
-use borrow.Author.Rules.{rules}
 use Rattle.arranging.proofs.Listing.{listed_same, listed_lengths, listed_19}
 use Rattle.arranging.proofs.inspect_lists.Goals as goal
 

@@ -1,6 +1,5 @@
 -- At the large limits.
 use native.Mathlib.Omega.{arith}
-use borrow.Author.Rules.{rules}
 use Rattle.arranging.proofs.lengthen_each.Goals as goal
 
 pub returns : goal.returns

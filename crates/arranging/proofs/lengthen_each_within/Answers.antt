@@ -1,5 +1,4 @@
 -- The refusals with place 0, then the lengthens.
-use borrow.Author.Rules.{rules}
 use Rattle.arranging.proofs.Listing.{each_refused, each_made}
 use Rattle.arranging.proofs.lengthen_each_within.Goals as goal
 

@@ -1,12 +1,7 @@
 -- The lengthens before the i-th are made, and none of them is refused.
-use mathlib.Core.Path.{◌≡◌, refl, ◌∙◌}
-use Prim.Native.Nat.{◌-◌}
-use native.Mathlib.Omega.{arith}
-use lib.ListN.{length}
-use borrow.Author.Rules.{rules}
-use Rattle.drawing.specs.Drawing.{lent, sheet_of}
+use mathlib.Core.Path.{refl, ◌∙◌}
 use Rattle.drawing.specs.Parts.{framable}
-use Rattle.arranging.proofs.Turns.{Turning, turning_start, turning_step, turning_refused, turning_end}
+use Rattle.arranging.proofs.Turns.{turning_start, turning_step, turning_refused, turning_end}
 use Rattle.arranging.proofs.lengthen_in_turn.Goals as goal
 
 pub loop-i-init : goal.loop-i-init

@@ -1,12 +1,9 @@
 -- The lengthens before the i-th are made, and none of them is refused.
-use mathlib.Core.Path.{◌≡◌, refl, ◌∙◌}
+use mathlib.Core.Path.{◌≡◌}
 use Prim.Native.Nat.{◌-◌}
-use native.Mathlib.Omega.{arith}
 use lib.ListN.{length}
-use borrow.Author.Rules.{rules}
 use Rattle.drawing.specs.Drawing.{lent, sheet_of}
-use Rattle.drawing.specs.Parts.{framable}
-use Rattle.arranging.proofs.Turns.{Turning, turning_start, turning_step, turning_refused, turning_end}
+use Rattle.arranging.proofs.Turns.{Turning}
 use Rattle.arranging.proofs.lengthen_in_turn.Given as goal
 
 abbrev pub invariant-loop-i : goal.invariant-loop-i
