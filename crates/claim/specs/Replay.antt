@@ -10,7 +10,7 @@ use Rattle.table.specs.declared.Limits.{Limits}
 use Rattle.slopes.specs.declared.Rule.{Rule}
 use Rattle.drawing.specs.declared.Framed.{Framed}
 use Rattle.drawing.specs.Drawing.{Sheet, accepted, layout}
-use Rattle.claim.specs.Claim.{Single, Lengthen, Shorten, Hold, Call, One, make, leaves, run}
+use Rattle.claim.specs.Claim.{Single, Lengthen, Shorten, Hold, Call, One, run}
 
 unfoldable pub call_of : ℕ → ℕ → ℕ → ℕ → Single
 call_of kind v c work =

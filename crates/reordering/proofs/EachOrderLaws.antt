@@ -24,7 +24,7 @@ use Rattle.arranging.specs.Arranging.{lists_fault, each_fault, whole, in_turn, l
 use Rattle.arranging.specs.declared.Arranged.{Arranged}
 use Rattle.arranging.specs.declared.Arranged.TheVariants.{Frame, Refused}
 use Rattle.arranging.proofs.EachLaws.{refused_no_frame, turn_goes_on, turn_stops, each_turns}
-use Rattle.reordering.specs.Reordering.{Lengthening, made, all_accepted, after}
+use Rattle.reordering.specs.Reordering.{made, all_accepted, after}
 use Rattle.reordering.proofs.ReorderLaws.{reordered}
 use Rattle.reordering.specs.EachOrder.{lengthens_of}
 
