@@ -5,26 +5,36 @@
 use std::env;
 use std::fs;
 use std::path::{Path, PathBuf};
-use std::process::Command;
+use std::process::{Command, Stdio};
 use std::time::SystemTime;
+
+/// What stands in a folder.
+fn entries(folder: &Path) -> impl Iterator<Item = PathBuf> {
+    fs::read_dir(folder).into_iter().flatten().flatten().map(|entry| entry.path())
+}
 
 /// When a file, or the newest file in a folder, was last changed.
 fn changed(path: &Path) -> SystemTime {
     let own = fs::metadata(path).and_then(|m| m.modified()).unwrap_or(SystemTime::UNIX_EPOCH);
-    let inner = fs::read_dir(path).into_iter().flatten().flatten().map(|entry| changed(&entry.path()));
-    inner.fold(own, SystemTime::max)
+    entries(path).map(|inner| changed(&inner)).fold(own, SystemTime::max)
 }
 
 /// The folder of the repository's own library, which is up to date on return.
 fn built(root: &Path) -> PathBuf {
-    let (crates, folder) = (root.join("crates"), root.join("target/staticlib"));
-    if changed(&folder.join("liblineage.a")) < changed(&crates) {
-        let status = Command::new("rt").args(["staticlib", "lineage"]).current_dir(root).status();
+    let folder = root.join("crates/lineage");
+    let archive = folder.join("out/liblineage.a");
+    // `rt` writes into the folder out of each crate, and that makes nothing older
+    let parts = entries(&root.join("crates")).flat_map(|one| entries(&one).collect::<Vec<_>>());
+    let parts: Vec<PathBuf> = parts.filter(|part| !part.ends_with("out")).collect();
+    if parts.iter().any(|part| changed(&archive) < changed(part)) {
+        let status = Command::new("rt").arg("lib").current_dir(&folder).stdin(Stdio::null()).status();
         let status = status.expect("LINEAGE_LIB_DIR names no library, so `rt`, which builds it, must be on the path");
-        assert!(status.success(), "`rt staticlib lineage` failed");
+        assert!(status.success(), "`rt lib` failed in crates/lineage");
     }
-    println!("cargo:rerun-if-changed={}", crates.display());
-    folder
+    for part in parts {
+        println!("cargo:rerun-if-changed={}", part.display());
+    }
+    folder.join("out")
 }
 
 /// The lines of include/refusals.txt, three to a ground, as an array of `Ground`.
