@@ -13,15 +13,14 @@ CODE = """\
 //
 // A number holds four slopes, the first highest, each as two bytes: across, up. The rows are the arms of a match, since
 // of these the compiler makes tables that are only read; it would write an array that is indexed to the stack first.
-ghost use mathlib.Core.Path.{_≡_};
-ghost use Prim.Native.Nat.{_<_};
-ghost use Rattle·slopes·specs.specs.Rows.{slopesIn, rowOf};
+ghost use Rattle.std.specs.Prelude.{◌≡◌, ◌<◌};
+ghost use Rattle.slopes.specs.Rows.{slopes_in, row_of};
 
 %s
 // Row `r`.
 pub fn row(r: usize) -> [u64; 8]
-    requires { ⌜ r < 32 ⌝ }
-    ensures { λ a. ⌜ slopesIn a ≡ rowOf r ⌝ }
+    requires { r < 32 }
+    ensures { slopes_in result ≡ row_of r }
 {
     match r {
 %s        _ => ROW_31,
@@ -31,12 +30,11 @@ pub fn row(r: usize) -> [u64; 8]
 
 CONTRACT = """\
 -- The 1,023 slopes of ten levels (document 02, request 102), as the paper writes them: up over across. Made by ten.py.
-use mathlib.Core.List.{List, [], _∷_}
-use Prim.Native.Nat.{ℕ}
-use Rattle·slopes·specs.specs.declared.Slope.{Slope}
+use Rattle.std.specs.Prelude.{List, [], ◌∷◌, ℕ}
+use Rattle.slopes.specs.declared.Slope.{Slope}
 
-infix 70 _over_
-abbrev pub _over_ : ℕ → ℕ → Slope
+infix 70 ◌over◌
+abbrev pub ◌over◌ : ℕ → ℕ → Slope
 u over a = record { across = a; up = u }
 
 unfoldable pub ten : List Slope
