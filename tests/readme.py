@@ -15,6 +15,7 @@ ROOT = os.path.dirname(os.path.dirname(os.path.abspath(__file__)))
 FILES = ["README.md", "examples/README.md"]
 CI = "bash .ci/run"
 LEFT_BEHIND = {".git", "rust/target"}
+BUILT = {"sheet", "liblineage.a"}
 
 
 def blocks(name, lines):
@@ -56,10 +57,13 @@ def commands(name, lines):
 
 
 def copy(to):
-    """The repository as it stands, with what the toolchain built: times are kept, so that nothing is built anew."""
+    """The repository as it stands, with the program and the library that the toolchain built, and nothing else of its
+    work: times are kept, so that nothing is built anew."""
 
     def left_behind(folder, names):
         inside = os.path.relpath(folder, ROOT)
+        if os.path.basename(inside) == "out" and inside.startswith("crates" + os.sep):
+            return set(names) - BUILT
         return [name for name in names if os.path.normpath(os.path.join(inside, name)) in LEFT_BEHIND]
 
     shutil.copytree(ROOT, to, symlinks=True, ignore=left_behind)
