@@ -1,10 +1,9 @@
--- The program's arrays have room for every file's text, and the text lies within the last one.
+-- The program's arrays have room for every file's text.
 use mathlib.Core.List.{List}
-use mathlib.Core.Path.{◌≡◌, ap}
+use mathlib.Core.Path.{◌≡◌}
 use Prim.Native.Nat.{ℕ, ◌≤◌}
 use native.Mathlib.Omega.{arith}
-use lib.ListN.{length, take, length-take}
-use Rattle.text.specs.Text.{Appended}
+use lib.ListN.{length}
 use Rattle.sheetfile.specs.SheetFile.{lots_in, Ample}
 
 few : (m : ℕ) → lots_in m ≤ 4096
@@ -26,9 +25,3 @@ ample {B} p r t x y u w h k o = record {
   work = omega (arith, few (length B));
   room = omega (arith, few (length B));
 }
-
-pub text_long : {A B T : List ℕ} {e : ℕ} → Appended A B 0 e T → e ≡ length (take e B)
-text_long a = omega (arith, a.ends, ap length a.text)
-
-pub text_within : {A B T : List ℕ} {e : ℕ} → Appended A B 0 e T → e ≤ length B
-text_within {A} {B} {T} {e} a = omega (arith, text_long a, length-take e B)

@@ -2,12 +2,13 @@
 //
 // One byte more than the longest accepted file is read: what follows does not change the text (`cut_same`). The exit
 // status says nothing of a failure: where the input cannot be read or the text cannot be written, a line on standard
-// error says so, and no refusal is printed for a file that was not read.
+// error says so, and no refusal is printed for a file that was not read. Nothing is said to one who has gone: a reader
+// that closes its pipe has what it wanted.
 #![tactic(auto)]
 
 ghost use Rattle.std.specs.Prelude.{◌≤◌, length, IfOk};
 
-use std::io::{self, Read, Write};
+use std::io::{self, ErrorKind, Read, Write};
 
 const MOST: usize = 32773;
 
@@ -54,8 +55,10 @@ fn main(rt: HostRuntime) -> io::Result<()> {
         &mut work,
         &mut out,
     );
-    let Ok(()) = rt.stdout().write_all(&out[..k]) else {
-        return eprintln!(rt; "sheet: standard output cannot be written");
-    };
-    Ok(())
+    match rt.stdout().write_all(&out[..k]) {
+        Err(error) if error.kind() != ErrorKind::BrokenPipe => {
+            eprintln!(rt; "sheet: standard output cannot be written")
+        }
+        _ => Ok(()),
+    }
 }

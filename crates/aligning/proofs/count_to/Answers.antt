@@ -44,6 +44,5 @@ returns-then-far c =
 
 pub returns : goal.returns
 returns c =
-    counted c.requires.0 _ c.get.ensures.0 c.get-place.ensures.0 c.if-goal-place.false
-    c.edge_slope-slope.ensures _ c.if-whole-across.false c.too_far-far.ensures c.if-get-eq1.false
-    c.if-far.false
+    counted c.requires.0 _ c.get.ensures.0 c.get-place.ensures.0 (omega arith) c.edge_slope-slope.ensures _ (omega arith)
+    c.too_far-far.ensures (λ e. omega arith) c.if-far.false

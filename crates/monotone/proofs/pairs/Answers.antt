@@ -32,7 +32,7 @@ loop-v-preserved c =
     record {
       past = omega arith;
       most = omega arith;
-      clear = clear_more c.loop-v.invariant.clear (λ e. c.if-get-eq-SHUT.false (c.get.ensures.0 ∙ e));
+      clear = clear_more c.loop-v.invariant.clear (λ e. omega arith);
       still = c.loop-v.invariant.still;
     }
 

@@ -1,4 +1,4 @@
--- The arrays have room, and what is written lies within the last one.
+-- The arrays have room.
 use Rattle.std.proofs.Common.{rules}
 use Rattle.sheet.proofs.Room.{ample}
 use Rattle.sheet.proofs.main.Goals as goal

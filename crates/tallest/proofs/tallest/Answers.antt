@@ -16,7 +16,7 @@ returns-then-not-long c =
     not_long (record {
       is_large = c.large_limits-limits.ensures;
       some = c.if-n-eq0.false;
-      few = c.if-most-n.false;
+      few = omega arith;
       told = c.both_long-long.ensures;
     }) (ap not c.if-not-long.true)
 
@@ -25,7 +25,7 @@ hang_each-requires c =
     parents_fit (record {
       is_large = c.large_limits-limits.ensures;
       some = c.if-n-eq0.false;
-      few = c.if-most-n.false;
+      few = omega arith;
       told = c.both_long-long.ensures;
     }) (ap not c.if-not-long.false)
 
@@ -36,7 +36,7 @@ overflow_mul-result c =
       (height_fits (record {
         is_large = c.large_limits-limits.ensures;
         some = c.if-n-eq0.false;
-        few = c.if-most-n.false;
+        few = omega arith;
         told = c.both_long-long.ensures;
       })).0,
     )
@@ -48,7 +48,7 @@ overflow_add-result c =
       (height_fits (record {
         is_large = c.large_limits-limits.ensures;
         some = c.if-n-eq0.false;
-        few = c.if-most-n.false;
+        few = omega arith;
         told = c.both_long-long.ensures;
       })).1,
     )
@@ -58,6 +58,6 @@ returns c =
     filled (record {
       is_large = c.large_limits-limits.ensures;
       some = c.if-n-eq0.false;
-      few = c.if-most-n.false;
+      few = omega arith;
       told = c.both_long-long.ensures;
     }) (ap not c.if-not-long.false) c.hang_each.ensures c.rank_each.ensures
