@@ -1,14 +1,14 @@
 -- The call's own contract, with its answer written.
 use mathlib.Core.Path.{refl}
-use Rattle.lineage.specs.Exports.{Replied}
+use Rattle.lineage.specs.Exports.{Exported}
 use Rattle.lineage.proofs.lineage_small_shorten.Goals as goal
 
 pub returns-then-reply-ne3 : goal.returns-then-reply-ne3
-unfolding Replied
+unfolding Exported
 returns-then-reply-ne3 c = (c.if-reply-ne3.true, refl, (refl, refl))
 
 pub returns : goal.returns
-unfolding Replied
+unfolding Exported
 returns c = (
   c.if-reply-ne3.false,
   record {

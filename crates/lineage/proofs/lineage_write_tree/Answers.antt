@@ -1,18 +1,18 @@
 -- The call's own contract, with its answer written.
 use mathlib.Core.Path.{refl}
-use Rattle.lineage.specs.Exports.{Replied}
+use Rattle.lineage.specs.Exports.{Exported}
 use Rattle.lineage.proofs.Exporting.{written_short}
 use Rattle.lineage.proofs.lineage_write_tree.Goals as goal
 
 pub returns-then-reply-ne3 : goal.returns-then-reply-ne3
-unfolding Replied
+unfolding Exported
 returns-then-reply-ne3 c = (c.if-reply-ne3.true, refl, (refl, refl))
 
 pub put_saved-requires : goal.put_saved-requires
 put_saved-requires c = (c.if-reply-ne3.false, written_short _ _ _ _ c.write_tree-answer.ensures)
 
 pub returns : goal.returns
-unfolding Replied
+unfolding Exported
 returns c = (
   c.if-reply-ne3.false,
   record {
