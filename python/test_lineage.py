@@ -388,7 +388,10 @@ class Refusals(unittest.TestCase):
         for name in "MAX_LOTS", "CHECK_LOTS", "MAX_PLACE", "SMALL_LOTS", "SMALL_PLACE", "MAX_EXPONENT":
             (given,) = re.findall(rf"#define LINEAGE_{name} (\d+)", header)
             self.assertEqual(int(given), getattr(lineage, name))
-        self.assertEqual(list(lineage.GROUNDS), [n for n in range(1, 23) if n != 13])
+        # 18, of a window, stands between the others
+        others = [n for n in lineage.GROUNDS if n != 18]
+        self.assertEqual(others, [*(n for n in range(1, 18) if n != 13), 19, 20, 21, 22])
+        self.assertEqual(list(lineage.GROUNDS), sorted([*others, 18]))
 
 
 class Finding(unittest.TestCase):

@@ -20,7 +20,8 @@ use Rattle.table.specs.TableLaws.{Tree}
 use Rattle.slopes.specs.declared.Rule.{Rule}
 use Rattle.slopes.specs.declared.Rule.TheVariants.{Steep, Balanced}
 use Rattle.slopes.specs.declared.Slope.{Slope}
-use Rattle.slopes.proofs.SlopeLaws.{levels_for-least, across_bound, up_bound, across_sum, up_sum}
+use Rattle.slopes.specs.Bounds.{across_bound, up_bound}
+use Rattle.slopes.proofs.SlopeLaws.{levels_for-least, across_sum, up_sum}
 use Rattle.slopes.specs.Slopes.{across_of, up_of, levels_for, slope_at, edge}
 use Rattle.drawing.specs.Drawing.{path_sum, fresh_places, fresh}
 use Rattle.drawing.specs.DrawingLaws.{Coordinate, Drawn}

@@ -15,7 +15,7 @@ use Rattle.table.specs.Numbering.{NumberedTree}
 use Rattle.table.specs.Parts.{Tested}
 use Rattle.table.specs.Table.{table_fault}
 use Rattle.slopes.specs.declared.Rule.{Rule}
-use Rattle.slopes.proofs.SlopeLaws.{across_bound, up_bound}
+use Rattle.slopes.specs.Bounds.{across_bound, up_bound}
 use Rattle.drawing.specs.Drawing.{Drawing, Sheet, lengths_fit, largest}
 use Rattle.drawing.specs.DrawingLaws.{Drawn, largest-within}
 

@@ -27,7 +27,8 @@ use Rattle.numbers.specs.PostNumbers.{Spans, spans, spans_of, post_numbers}
 use Rattle.slopes.specs.declared.Rule.{Rule}
 use Rattle.slopes.specs.declared.Rule.TheVariants.{Steep, Balanced}
 use Rattle.slopes.specs.declared.Slope.{Slope}
-use Rattle.slopes.proofs.SlopeLaws.{levels_for_is, across_bound, up_bound}
+use Rattle.slopes.specs.Bounds.{across_bound, up_bound}
+use Rattle.slopes.proofs.SlopeLaws.{levels_for_is}
 use Rattle.slopes.specs.Slopes.{levels, level_numbers, flat, upright, level_at, levels_for, slope_at, edge}
 use Rattle.slopes.specs.Ten.{◌over◌}
 use Rattle.drawing.specs.declared.Framed.{Framed}

@@ -2,15 +2,19 @@
 //
 // One byte more than the longest accepted file is read: what follows does not change the text (`cut_same`). The exit
 // status says nothing of a failure: where the input cannot be read or the text cannot be written, a line on standard
-// error says so, and no refusal is printed for a file that was not read. Nothing is said to one who has gone: a reader
-// that closes its pipe has what it wanted.
+// error says so, and no refusal is printed for a file that was not read. Where nobody reads any more, nothing is said, and
+// the status is that of a program that the signal stops.
 #![tactic(auto)]
 
 ghost use Rattle.std.specs.Prelude.{◌≤◌, length, IfOk};
 
 use std::io::{self, ErrorKind, Read, Write};
+use std::process::ExitCode;
 
 const MOST: usize = 32773;
+
+// The status that a shell gives a program that was stopped because nobody reads its output any more.
+const CLOSED: u8 = 141;
 
 // Reads until the buffer is full or the input ends, and returns how many bytes came.
 fn read_full<R: Read>(input: &mut R, bytes: &mut [u8]) -> io::Result<usize>
@@ -27,10 +31,11 @@ fn read_full<R: Read>(input: &mut R, bytes: &mut [u8]) -> io::Result<usize>
     Ok(m)
 }
 
-fn main(rt: HostRuntime) -> io::Result<()> {
+fn main(rt: HostRuntime) -> ExitCode {
     let mut bytes = [0u8; MOST];
     let Ok(m) = read_full(&mut rt.stdin(), &mut bytes) else {
-        return eprintln!(rt; "sheet: standard input cannot be read");
+        let _ = eprintln!(rt; "sheet: standard input cannot be read");
+        return ExitCode::SUCCESS;
     };
     let mut parent = [0u32; 4096];
     let mut rank = [0u32; 4096];
@@ -55,10 +60,12 @@ fn main(rt: HostRuntime) -> io::Result<()> {
         &mut work,
         &mut out,
     );
-    match rt.stdout().write_all(&out[..k]) {
-        Err(error) if error.kind() != ErrorKind::BrokenPipe => {
-            eprintln!(rt; "sheet: standard output cannot be written")
-        }
-        _ => Ok(()),
+    let Err(error) = rt.stdout().write_all(&out[..k]) else {
+        return ExitCode::SUCCESS;
+    };
+    if error.kind() == ErrorKind::BrokenPipe {
+        return ExitCode::from(CLOSED);
     }
+    let _ = eprintln!(rt; "sheet: standard output cannot be written");
+    ExitCode::SUCCESS
 }

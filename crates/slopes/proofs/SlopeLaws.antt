@@ -1,8 +1,5 @@
 -- Laws of the number of levels and of the slopes, for both rules.
---
---   across_bound rule n, up_bound rule n == what the parts of the slopes of n nodes sum to at most: document 01's bounds
---                                         of a fresh sheet
-use Rattle.std.specs.Prelude.{Bool, List, ◌≡◌, refl, ℕ, zero, suc, ◌+◌, ◌-◌, ◌*◌, ◌/◌, ◌^◌, ◌≤◌, ◌<◌, leb, length, get_or}
+use Rattle.std.specs.Prelude.{Bool, List, ◌≡◌, refl, ℕ, zero, suc, ◌+◌, ◌-◌, ◌*◌, ◌^◌, ◌≤◌, ◌<◌, leb, length, get_or}
 use Rattle.std.proofs.Common.{ap, ◌∙◌, pow-suc, le_antisymm, arith, pow_mono, leb-true, le-leb}
 use Rattle.std.specs.Int.Count.{count_leading_zeros}
 use Rattle.std.proofs.lemmas.Nat.{leading_length}
@@ -20,6 +17,7 @@ use Rattle.slopes.proofs.LevelLaws.{Below, Adjacent, Linked, levels_linked, leve
 use Rattle.slopes.proofs.LevelLaws.{linked_positive, linked_increasing, linked_adjacent}
 use Rattle.slopes.proofs.LevelLaws.{Part, across_part, up_part, levels-sum, levels-size}
 use Rattle.slopes.specs.Slopes.{across_of, up_of, levels, flat, upright, fraction_at, levels_for, slope_at, edge}
+use Rattle.slopes.specs.Bounds.{across_bound, up_bound}
 
 ------------------------------------------------------------------------
 -- The number of levels
@@ -163,14 +161,6 @@ balanced-sum f part n h =
     let long : n - 1 ≤ length (fractions k) = omega (arith, levels-length k flat upright, levels_for_enough n) in
     let all = sum-total f flat (fractions k) (n - 1) long in
     omega (arith, same, levels-sum f part k)
-
-abbrev pub across_bound : Rule → ℕ → ℕ
-across_bound Steep n = n - 1
-across_bound Balanced n = (3 ^ levels_for n - 1) / 2
-
-abbrev pub up_bound : Rule → ℕ → ℕ
-up_bound Steep n = n * (n - 1) / 2
-up_bound Balanced n = (3 ^ levels_for n - 1) / 2
 
 pub across_sum : (rule : Rule) (n : ℕ) → 1 ≤ n → sum (λ i. (slope_at rule n (suc i)).across) (n - 1) ≤ across_bound rule n
 across_sum Steep n h = omega (arith, steep_across_sum n)

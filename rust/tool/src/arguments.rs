@@ -291,26 +291,20 @@ pub fn number(what: &str, word: &OsStr) -> Result<u32, Stop> {
 
 /// Two numbers with ':' between.
 pub fn two(what: &str, word: &OsStr) -> Result<(u32, u32), Stop> {
-    numbers(what, word, "two", ':').map(|[a, b]| (a, b))
+    let word = word.to_string_lossy();
+    match word.split_once(':') {
+        Some((a, b)) => Ok((number(what, a.as_ref())?, number(what, b.as_ref())?)),
+        None => misuse(format!("{what}: '{word}' is not two numbers with ':' between")),
+    }
 }
 
 /// Three numbers with ',' between.
 pub fn three(what: &str, word: &OsStr) -> Result<(u32, u32, u32), Stop> {
-    numbers(what, word, "three", ',').map(|[a, b, c]| (a, b, c))
-}
-
-/// N numbers with a mark between; `count` is N as a word.
-fn numbers<const N: usize>(what: &str, word: &OsStr, count: &str, mark: char) -> Result<[u32; N], Stop> {
     let word = word.to_string_lossy();
-    let parts: Vec<&str> = word.split(mark).collect();
-    if parts.len() != N {
-        return misuse(format!("{what}: '{word}' is not {count} numbers with '{mark}' between"));
+    match word.split(',').collect::<Vec<_>>()[..] {
+        [a, b, c] => Ok((number(what, a.as_ref())?, number(what, b.as_ref())?, number(what, c.as_ref())?)),
+        _ => misuse(format!("{what}: '{word}' is not three numbers with ',' between")),
     }
-    let mut numbers = [0; N];
-    for (i, part) in parts.into_iter().enumerate() {
-        numbers[i] = number(what, part.as_ref())?;
-    }
-    Ok(numbers)
 }
 
 #[cfg(test)]

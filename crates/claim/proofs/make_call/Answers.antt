@@ -1,5 +1,6 @@
 -- A call's outcome is the definition's.
 use mathlib.Core.Path.{refl}
+use native.Mathlib.Omega.{arith}
 use Rattle.claim.proofs.Replaying.{made_longer, made_shorter, made_held}
 use Rattle.claim.proofs.make_call.Goals as goal
 
@@ -12,4 +13,4 @@ pub returns-then-kind-eq1 : goal.returns-then-kind-eq1
 returns-then-kind-eq1 c = made_shorter _ _ _ _ _ _ _ _ c.if-kind-eq0.false c.if-kind-eq1.true c.shorten.ensures.says
 
 pub returns : goal.returns
-returns c = made_held _ _ _ _ _ _ _ _ c.if-kind-eq0.false c.if-kind-eq1.false refl c.hold.ensures.says
+returns c = made_held _ _ _ _ _ _ _ _ (λ e. omega arith) (λ e. omega arith) refl c.hold.ensures.says
