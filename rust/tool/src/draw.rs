@@ -239,11 +239,8 @@ fn trace(svg: &mut String, sheet: &Sheet, plan: &Plan, (u, v): (u32, u32), colou
     path.windows(2).for_each(|step| held_dashes(svg, sheet, plan, (step[0], step[1])));
 }
 
-/// The points of a path's pieces: it is one, unless it leaves the window and comes back. That of one lot is a point.
+/// The points of a path's pieces: it is one, unless it leaves the window and comes back.
 fn pieces(sheet: &Sheet, plan: &Plan, path: &[u32]) -> Vec<Vec<Point>> {
-    if let [lot] = path {
-        return plan.dot_of[*lot as usize].map(|dot| vec![plan.dots[dot]]).into_iter().collect();
-    }
     let mut pieces: Vec<Vec<Point>> = Vec::new();
     let mut at_dot = false;
     for step in path.windows(2) {

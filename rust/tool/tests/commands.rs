@@ -136,7 +136,10 @@ fn columns_that_a_lot_does_not_come_to() {
     // a wrong value is told before any call is made
     let told = |value: &str| fails(&["sheet", &tree, "--column=0:0", "--column", value]);
     assert_eq!(told("x"), (2, "lineage: --column: 'x' is not two numbers with ':' between\n".to_string()));
-    assert_eq!(told("1:2:3"), (2, "lineage: --column: '2:3' is not a whole number below 4,294,967,296\n".to_string()));
+    assert_eq!(
+        told("1:2:3"),
+        (2, "lineage: --column: '2:3' is not a whole number below 4,294,967,296\n".to_string())
+    );
     assert_eq!(told("1:x"), (2, "lineage: --column: 'x' is not a whole number below 4,294,967,296\n".to_string()));
     let beside = "lineage: --column would mean nothing beside --places\n".to_string();
     assert_eq!(fails(&["check", &tree, "--places", &tree, "--column=1:3"]), (2, beside));

@@ -568,8 +568,7 @@ fn a_path_that_leaves_the_window_comes_back_as_another_piece() {
     let along = |lot: u32| vec![picture.lines[&lot].0, picture.lines[&lot].1];
     assert_eq!(picture.lines[&3].1, picture.dots[&3].at);
     assert_eq!(traced(&svg, "path-3-4"), [turned(3), along(4)]);
-    assert_eq!(traced(&svg, "path-4-4"), [vec![picture.dots[&4].at]]);
-    assert!(svg.contains("<circle id=\"path-4-4\""), "{svg}");
+    assert!(traced(&svg, "path-4-4").is_empty() && svg.contains("<circle id=\"path-4-4\""), "{svg}");
     // the dashes over the path are cut as the line is
     let dashed = svg.lines().find(|line| line.starts_with("<line") && line.contains("dash")).unwrap();
     assert_eq!(vec![ends(dashed).0, ends(dashed).1], turned(3));
