@@ -4,7 +4,8 @@
 --   number_of h   == the number of the refusal h; 0 of a direction
 --   opposite h   == the direction h turned round
 --   Within b h   == no part of the direction h is more than b away from 0
-use Rattle.std.specs.Prelude.{true, ◌||◌, List, ◌≢◌, ◌≡◌, refl, ℕ, zero, suc, ◌*◌, ◌≤◌, ◌<◌, ltb, leb, ℤ, pos, neg_ℤ, nat_abs, length}
+use Rattle.std.specs.Prelude.{true, ◌||◌, List, ◌≢◌, ◌≡◌, refl, ℕ, zero, suc, ◌*◌, ◌≤◌, ◌<◌, ltb, leb, ℤ, pos, neg_ℤ}
+use Rattle.std.specs.Prelude.{nat_abs, length}
 use Rattle.std.proofs.Common.{⊎_elim, sym, ap, subst, ◌∙◌, arith, leb-false, lt-ltb, le-ltb, ltb-true, ltb-false}
 use Rattle.std.proofs.Math.Option.{Option, none, some}
 use Rattle.std.proofs.Math.IntN.{neg_ℤ-neg_ℤ}
@@ -16,7 +17,8 @@ use Rattle.table.specs.declared.Limits.{Limits}
 use Rattle.table.specs.Table.{parent, rank, climb, steps_up, table_fault, large}
 use Rattle.table.specs.TableLaws.{Tree}
 use Rattle.table.specs.Acceptance.{accepting, table_number}
-use Rattle.table.specs.Ancestry.{climb-zero, under_antisym, steps_up_way, zero-steps_up, steps_up_self, steps_up_siblings}
+use Rattle.table.specs.Ancestry.{climb-zero, under_antisym, steps_up_way, zero-steps_up, steps_up_self}
+use Rattle.table.specs.Ancestry.{steps_up_siblings}
 use Rattle.table.specs.Ancestry.{siblings_ranks}
 use Rattle.table.proofs.NumberingLaws.{numbering}
 use Rattle.table.specs.Paths.{PathRises, SharePoint, CommonEnd}

@@ -26,7 +26,8 @@
 --   drawing times x y         == the drawing in three lent lists, at entry and at exit
 --   sheet times x y held      == the sheet in four
 --   Does L .. call r          == that contract of lent lists, for a call whose definition is `call`
-use Rattle.std.specs.Prelude.{Bool, true, false, cond, not, ◌&&◌, List, [], ◌∷◌, ◌≡◌, ℕ, zero, suc, ◌+◌, ◌*◌, max, leb, eqb, length, get_or, replicate}
+use Rattle.std.specs.Prelude.{Bool, true, false, cond, not, ◌&&◌, List, [], ◌∷◌, ◌≡◌, ℕ, zero, suc, ◌+◌, ◌*◌, max, leb}
+use Rattle.std.specs.Prelude.{eqb, length, get_or, replicate}
 use Rattle.std.proofs.Math.Option.{Option}
 use Rattle.std.specs.Borrow.{Bor, MutBor}
 use denote.Triple.Both.{Both}

@@ -10,7 +10,8 @@
 --   line ds       == one-digit numbers, one space between, and the line's end
 --   cases         == the table, in document 01's order
 --   cases-hold    == every case of it holds
-use Rattle.std.specs.Prelude.{true, false, List, [], ◌∷◌, ◌++◌, map, ◌≡◌, refl, ℕ, suc, ◌+◌, ◌*◌, ◌^◌, ◌≤◌, T, Float, ℤ, pos, negsuc, neg_ℤ, length}
+use Rattle.std.specs.Prelude.{true, false, List, [], ◌∷◌, ◌++◌, map, ◌≡◌, refl, ℕ, suc, ◌+◌, ◌*◌, ◌^◌, ◌≤◌, T, Float, ℤ}
+use Rattle.std.specs.Prelude.{pos, negsuc, neg_ℤ, length}
 use Rattle.std.proofs.Math.Option.{none}
 use Rattle.std.proofs.Common.{ap, arith}
 use Rattle.std.proofs.Math.Nat.{pow-le-pow_right}
@@ -20,7 +21,8 @@ use Rattle.std.specs.Float.Ieee.Exact.{HasValue}
 use Rattle.laws.specs.Refusals.{refusal}
 use Rattle.laws.specs.Search.{count, least, tabulate, Outcome}
 use Rattle.table.specs.declared.Counted.TheVariants.{Nodes}
-use Rattle.table.specs.Table.{climb, leads, is_child, children, is_child_at, child_at, under, steps_up, forest, postorder}
+use Rattle.table.specs.Table.{climb, leads, is_child, children, is_child_at, child_at, under, steps_up, forest}
+use Rattle.table.specs.Table.{postorder}
 use Rattle.table.specs.Table.{place, order, post_number, has_number, first_number, large, small, checked}
 use Rattle.table.specs.Table.{stray_parent, bad_rank, adrift, all_long, shape_fault, tree_fault, table_fault}
 use Rattle.numbers.specs.PostNumbers.{Spans, spans, spans_of, post_numbers}
@@ -34,9 +36,11 @@ use Rattle.slopes.specs.Ten.{◌over◌}
 use Rattle.drawing.specs.declared.Framed.{Framed}
 use Rattle.drawing.specs.declared.Framed.TheVariants.{Frame, Refused}
 use Rattle.drawing.specs.Drawing as drawing
-use Rattle.drawing.specs.Drawing.{Sheet, sum_up, path_sum, fresh_places, fresh, largest, frame, accepted, placed, node_fits}
+use Rattle.drawing.specs.Drawing.{Sheet, sum_up, path_sum, fresh_places, fresh, largest, frame, accepted, placed}
+use Rattle.drawing.specs.Drawing.{node_fits}
 use Rattle.drawing.specs.Drawing.{held_fits, lot_fits, sheet_fault, layout, lent}
-use Rattle.stretching.specs.Stretching.{moved, stretched, beyond, edge_fault, lot_fault, stretch_fault, lengthen, shorten}
+use Rattle.stretching.specs.Stretching.{moved, stretched, beyond, edge_fault, lot_fault, stretch_fault, lengthen}
+use Rattle.stretching.specs.Stretching.{shorten}
 use Rattle.holding.specs.Holding.{hold}
 use Rattle.arranging.specs.Arranging.{lists_fault, each_fault, at_place, in_turn, lengthen_each}
 use Rattle.arranging.specs.declared.Arranged.{Arranged}
@@ -56,7 +60,8 @@ use Rattle.direction.specs.declared.Heading.TheVariants.{Along}
 use Rattle.direction.specs.Direction.{sideways, heading, pair_fault, direction}
 use Rattle.monotone.specs.declared.Verdict.{Verdict}
 use Rattle.monotone.specs.declared.Verdict.TheVariants.{Monotone, Turns}
-use Rattle.monotone.proofs.Decision.{widen, span, upward, downward, path_vectors, turns_at, second_node, first_node, decide}
+use Rattle.monotone.proofs.Decision.{widen, span, upward, downward, path_vectors, turns_at, second_node, first_node}
+use Rattle.monotone.proofs.Decision.{decide}
 use Rattle.monotone.proofs.Decision.{decide_says}
 use Rattle.monotone.specs.Monotone.{check_fault, Says}
 use Rattle.monotone.specs.Monotone as monotone

@@ -1,6 +1,8 @@
 -- Laws of counting, searching and tabulating below a bound.
-use Rattle.std.specs.Prelude.{Bool, true, false, ◌||◌, List, [], ◌∷◌, ◌≡◌, refl, ℕ, zero, suc, ◌+◌, ◌≤◌, ◌<◌, min, ltb, length, get_or}
-use Rattle.std.proofs.Common.{⊎_elim, sym, ap, ap₂, ◌∙◌, eq-or-lt_of_le, le_of_suc-le-suc, add-one, arith, length-append, ext_get_or, ltb-true, ltb-false}
+use Rattle.std.specs.Prelude.{Bool, true, false, ◌||◌, List, [], ◌∷◌, ◌≡◌, refl, ℕ, zero, suc, ◌+◌, ◌≤◌, ◌<◌, min, ltb}
+use Rattle.std.specs.Prelude.{length, get_or}
+use Rattle.std.proofs.Common.{⊎_elim, sym, ap, ap₂, ◌∙◌, eq-or-lt_of_le, le_of_suc-le-suc, add-one, arith}
+use Rattle.std.proofs.Common.{length-append, ext_get_or, ltb-true, ltb-false}
 use Rattle.std.proofs.Math.Path.{subst⁻¹}
 use Rattle.std.proofs.Math.ListN.{get_or-append}
 use Rattle.std.proofs.lemmas.List.{get_or_at}

@@ -1,5 +1,6 @@
 -- The order of whole numbers against zero: sums, products, negations and squares.
-use Rattle.std.specs.Prelude.{◌≡◌, refl, ℕ, zero, suc, ◌+◌, ◌*◌, ◌≤◌, ◌<◌, ℤ, pos, negsuc, neg_ℤ, ◌+ℤ◌, ◌*ℤ◌, ◌<ℤ◌, ◌≤ℤ◌}
+use Rattle.std.specs.Prelude.{◌≡◌, refl, ℕ, zero, suc, ◌+◌, ◌*◌, ◌≤◌, ◌<◌, ℤ, pos, negsuc, neg_ℤ, ◌+ℤ◌, ◌*ℤ◌, ◌<ℤ◌}
+use Rattle.std.specs.Prelude.{◌≤ℤ◌}
 use Rattle.std.proofs.Common.{subst, zero-le, suc-le-suc, mul-pos, arith, ltb→lt, lt→ltb, leb→le, le→leb}
 use Rattle.std.proofs.Math.IntN.{*ℤ-zero, *ℤ-negsuc}
 use Rattle.std.specs.Int.Signed.{<ℤ_irrefl}

@@ -1,9 +1,11 @@
 -- A solver for polynomial identities of whole numbers, by reflection. An expression over numbered variables is brought
 -- to a polynomial in Horner's form, and an identity holds where the polynomial of the difference has only zeros:
 --     solve (x ∷ y ∷ []) (v 0 ⊗ v 1) (v 1 ⊗ v 0) tt : x *ℤ y ≡ y *ℤ x
-use Rattle.std.specs.Prelude.{◌≡◌, refl, List, [], ◌∷◌, Bool, true, false, ℕ, zero, suc, T, ℤ, pos, negsuc, neg_ℤ, ◌+ℤ◌, ◌-ℤ◌, ◌*ℤ◌}
+use Rattle.std.specs.Prelude.{◌≡◌, refl, List, [], ◌∷◌, Bool, true, false, ℕ, zero, suc, T, ℤ, pos, negsuc, neg_ℤ, ◌+ℤ◌}
+use Rattle.std.specs.Prelude.{◌-ℤ◌, ◌*ℤ◌}
 use Rattle.std.proofs.Common.{sym, ◌∙◌, ap, ap₂}
-use Rattle.std.proofs.Math.IntN.{+ℤ_idl, +ℤ_idr, +ℤ_assoc, +ℤ_comm, *ℤ-zero, *ℤ_comm, one, -ℤ-+ℤ_cancel, *ℤ-one, *ℤ-negsuc}
+use Rattle.std.proofs.Math.IntN.{+ℤ_idl, +ℤ_idr, +ℤ_assoc, +ℤ_comm, *ℤ-zero, *ℤ_comm, one, -ℤ-+ℤ_cancel, *ℤ-one}
+use Rattle.std.proofs.Math.IntN.{*ℤ-negsuc}
 use Rattle.laws.specs.RingLaws.{swapʳ, distʳ, distˡ, *-assoc}
 
 ------------------------------------------------------------------------

@@ -4,7 +4,8 @@
 --   weigh b x           == x if b, else 0
 --   weighted_sum f g n   == the sum of g at the numbers below n that pass f
 use Rattle.std.specs.Prelude.{Bool, true, false, ◌≡◌, refl, ℕ, zero, suc, ◌+◌, ◌≤◌, ◌<◌, ltb, eqb}
-use Rattle.std.proofs.Common.{⊎_elim, sym, ap, ap₂, subst, ◌∙◌, eq-or-lt_of_le, le_of_suc-le-suc, add-one, arith, lt-ltb, eqb-true, eq-eqb, ne_eqb}
+use Rattle.std.proofs.Common.{⊎_elim, sym, ap, ap₂, subst, ◌∙◌, eq-or-lt_of_le, le_of_suc-le-suc, add-one, arith}
+use Rattle.std.proofs.Common.{lt-ltb, eqb-true, eq-eqb, ne_eqb}
 use Rattle.std.proofs.Math.Path.{subst⁻¹}
 use Rattle.laws.specs.Search.{bit, count}
 use Rattle.laws.specs.SearchLaws.{count_none, count_some}

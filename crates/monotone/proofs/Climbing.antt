@@ -8,7 +8,7 @@ use native.Mathlib.Omega.{arith}
 use lib.IntN.{pos, ◌-ℤ◌}
 use lib.ListN.{length, get_or, set}
 use borrow.Author.Tests.{not-true}
-use Rattle.laws.specs.Regions.{Only, only_refl, only_trans, only_within, only_set}
+use Rattle.laws.specs.Regions.{Only, only_refl, only_trans, only_within, only_set, only_store}
 use Rattle.laws.specs.Tests.{by_eq, differ, false_of, both, both_is}
 use Rattle.table.specs.Ancestry.{under_refl, under_parent, under_trans, under_on}
 use Rattle.table.specs.Table.{parent, under}
@@ -21,7 +21,7 @@ use Rattle.monotone.specs.Parts.{EdgeTurned, TurnedPart, Away, Said, Told, Climb
 use Rattle.monotone.proofs.Growth.{holds_some, formed_one, holds_as}
 use Rattle.monotone.proofs.Stores.{store_here, store_else}
 use Rattle.monotone.proofs.Turning.{TurningPart, Turning, root_below, turning_start, turning_step}
-use Rattle.monotone.proofs.Turning.{turning_kept, turning_end, edge_only}
+use Rattle.monotone.proofs.Turning.{turning_edges, turning_kept, turning_end, edge_only}
 
 ------------------------------------------------------------------------
 -- Stores in the first region leave the edges
@@ -100,6 +100,14 @@ module _ {P R : List ℕ} (T : Tree P R) {u : ℕ} (l : u < length P) where
     only = only_refl 0 (3 * length P) X;
   }
 
+-- the edges are small where the loop begins, and wherever it has come
+pub first_edges : {n u : ℕ} {W X : List ℕ} → u < n → X ≡ set W u 1 → SmallEdges n W → SmallEdges n X
+first_edges {u = u} l q e = edges_kept (only_store u 1 (omega arith) l q) e
+
+pub climbing_edges : {P : List ℕ} {u z k : ℕ} {W X : List ℕ} → Climbing P u z W X k → SmallEdges (length P) W
+    → SmallEdges (length P) X
+climbing_edges c e = turning_edges c.turning c.only.long e
+
 -- a part that is turned is the same wherever it is
 part_same : {P : List ℕ} {u z at : ℕ} {W X A : List ℕ} → TurningPart P u z at W X → TurnedPart P u at W A
     → (y : ℕ) → 0 < y → y < length P → under P y u ≡ true → under P y z ≡ false → part_at X (at + y) ≡ part_at A (at + y)
@@ -118,6 +126,13 @@ module _ {P R : List ℕ} (T : Tree P R) {u : ℕ} (l : u < length P) {W : List 
 
   pub climbing_turned : Turning P u p W B
   climbing_turned = turning_step T l some c.turning turned
+
+  -- the edges are small, and the parent is a node
+  pub turned_edges : SmallEdges (length P) W → SmallEdges (length P) B
+  turned_edges e = turning_edges climbing_turned (turned.long ∙ c.only.long) e
+
+  pub turned_parent : SmallEdges (length P) W → p < length B
+  turned_parent e = omega (arith, T.inside z inside, (turned_edges e).long)
 
   -- the words are as they were
   words : (v : ℕ) → v < length P → get_or B v 0 ≡ get_or X v 0

@@ -1,7 +1,8 @@
 -- Drawings that the check can get wrong, computed: one table of cases, one theorem.
 use Rattle.std.specs.Prelude.{List, [], ◌∷◌, map, ◌≡◌, refl, ℕ, ◌*◌, length}
 use Rattle.laws.specs.Search.{count, least}
-use Rattle.table.specs.Table.{climb, leads, is_child, children, is_child_at, under, steps_up, stray_parent, bad_rank, adrift}
+use Rattle.table.specs.Table.{climb, leads, is_child, children, is_child_at, under, steps_up, stray_parent, bad_rank}
+use Rattle.table.specs.Table.{adrift}
 use Rattle.table.specs.Table.{all_long, shape_fault, tree_fault, table_fault, checked}
 use Rattle.monotone.specs.declared.Verdict.{Verdict}
 use Rattle.monotone.specs.declared.Verdict.TheVariants.{Monotone, Turns, Refused}

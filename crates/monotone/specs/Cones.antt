@@ -17,7 +17,8 @@
 --   Alone z e r           == r stands for one vector, the edge e of z
 --   Growing n W k z       == k is a cone, to which the edge of z is to be added
 --   Grown n edge k z r    == r stands for one vector more than k, the edge of z
-use Rattle.std.specs.Prelude.{Bool, true, List, [], ◌∷◌, ◌≡◌, ℕ, ◌+◌, ◌*◌, ◌/◌, ◌%◌, ◌≤◌, ◌<◌, ℤ, pos, nat_abs, ◌-ℤ◌, get_or, length}
+use Rattle.std.specs.Prelude.{Bool, true, List, [], ◌∷◌, ◌≡◌, ℕ, ◌+◌, ◌*◌, ◌/◌, ◌%◌, ◌≤◌, ◌<◌, ℤ, pos, nat_abs, ◌-ℤ◌}
+use Rattle.std.specs.Prelude.{get_or, length}
 use Rattle.monotone.specs.declared.Vector.{Vector}
 use Rattle.monotone.specs.declared.Move.{Move}
 use Rattle.monotone.specs.declared.Move.TheVariants.{Keep, High, Low, Never}

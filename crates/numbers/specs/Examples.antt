@@ -4,7 +4,8 @@ use Rattle.laws.specs.Search.{count, least, tabulate, Outcome}
 use Rattle.table.specs.declared.Counted.{Counted}
 use Rattle.table.specs.declared.Counted.TheVariants.{Nodes, Refused}
 use Rattle.table.specs.Table.{climb, leads, is_child, children, is_child_at, child_at, under, forest, postorder, order}
-use Rattle.table.specs.Table.{place, post_number, has_number, first_number, large, stray_parent, bad_rank, adrift, all_long}
+use Rattle.table.specs.Table.{place, post_number, has_number, first_number, large, stray_parent, bad_rank, adrift}
+use Rattle.table.specs.Table.{all_long}
 use Rattle.table.specs.Table.{shape_fault, tree_fault, table_fault}
 use Rattle.numbers.specs.PostNumbers.{Spans, spans, spans_of, post_numbers}
 

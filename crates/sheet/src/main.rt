@@ -2,8 +2,8 @@
 //
 // One byte more than the longest accepted file is read: what follows does not change the text (`cut_same`). The exit
 // status says nothing of a failure: where the input cannot be read or the text cannot be written, a line on standard
-// error says so, and no refusal is printed for a file that was not read. Where nobody reads any more, nothing is said, and
-// the status is that of a program that the signal stops.
+// error says so, and no refusal is printed for a file that was not read. Where nobody reads any more, nothing is said,
+// and the status is that of a program that the signal stops.
 #![tactic(auto)]
 
 ghost use Rattle.std.specs.Prelude.{◌≤◌, length, IfOk};

@@ -10,7 +10,8 @@
 use mathlib.Core.List.Memᴰ
 use mathlib.Core.List.{List, [], ◌∷◌, ◌++◌, Memᴰ}
 use Rattle.std.specs.Prelude.{◌⊎◌, ◌≡◌, refl, length, get_or}
-use Rattle.std.proofs.Common.{inl, inr, ⊎_elim, ◌∙◌, mul-le-mul_right, le_of_lt, arith, length-append, pow_mono, get_or-append-add}
+use Rattle.std.proofs.Common.{inl, inr, ⊎_elim, ◌∙◌, mul-le-mul_right, le_of_lt, arith, length-append, pow_mono}
+use Rattle.std.proofs.Common.{get_or-append-add}
 use Rattle.std.proofs.Math.Path.{ap}
 use Prim.Native.Nat.{ℕ, zero, suc, ◌+◌, ◌-◌, ◌*◌, ◌^◌, ◌≤◌, ◌<◌}
 use Rattle.std.proofs.Math.Nat.{mul-lt-mul_of_pos_left, lt_of_mul-lt-mul_left, pow-suc}

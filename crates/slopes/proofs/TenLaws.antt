@@ -2,8 +2,10 @@
 --
 --   det s t   == a d - b c of s = (a, b) and t = (c, d)
 --   all_one ss == the determinant of all neighbours in the list ss is 1, tested
-use Rattle.std.specs.Prelude.{Bool, true, ◌&&◌, List, [], ◌∷◌, ◌≡◌, refl, ℕ, zero, suc, ◌+◌, ◌-◌, ◌*◌, ◌/◌, ◌%◌, ◌^◌, ◌≤◌, ◌<◌, eqb, length, get_or, drop}
-use Rattle.std.proofs.Common.{sym, ap, ◌∙◌, mul-le-mul_right, mul-lt-mul_of_pos_right, arith, pow_pos, pow-add, get_or-take, get_or-drop, eqb-true}
+use Rattle.std.specs.Prelude.{Bool, true, ◌&&◌, List, [], ◌∷◌, ◌≡◌, refl, ℕ, zero, suc, ◌+◌, ◌-◌, ◌*◌, ◌/◌, ◌%◌, ◌^◌}
+use Rattle.std.specs.Prelude.{◌≤◌, ◌<◌, eqb, length, get_or, drop}
+use Rattle.std.proofs.Common.{sym, ap, ◌∙◌, mul-le-mul_right, mul-lt-mul_of_pos_right, arith, pow_pos, pow-add}
+use Rattle.std.proofs.Common.{get_or-take, get_or-drop, eqb-true}
 use Rattle.laws.specs.Tests.{both}
 use Rattle.slopes.specs.declared.Slope.{Slope}
 use Rattle.slopes.proofs.LevelLaws.{levels-length}

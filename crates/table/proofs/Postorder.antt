@@ -6,7 +6,8 @@
 --   Block P R v b     == v's subtree is the block of the order that starts after b nodes
 --   start P R v       == the number of nodes before v's block
 use mathlib.Core.List.{List, [], ◌∷◌, ◌++◌, append_assoc, append-nil}
-use Rattle.std.proofs.Common.{⊎_elim, ap₂, subst, ◌∙◌, eq-or-lt_of_le, le_of_suc-le-suc, arith, length-append, eq-eqb, ne_eqb}
+use Rattle.std.proofs.Common.{⊎_elim, ap₂, subst, ◌∙◌, eq-or-lt_of_le, le_of_suc-le-suc, arith, length-append, eq-eqb}
+use Rattle.std.proofs.Common.{ne_eqb}
 use Rattle.std.specs.Prelude.{◌≡◌, ltb, length}
 use Rattle.std.proofs.Math.Path.{refl, sym, ap, subst⁻¹}
 use Prim.Native.Nat.{ℕ, zero, suc, ◌+◌, ◌-◌, ◌≤◌, ◌<◌}

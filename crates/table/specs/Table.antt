@@ -23,7 +23,8 @@
 --   tree_fault P R            == refusals 4 to 7
 --   table_fault L ..          == both, in this order
 --   Called fault W X Says    == a call's contract: what it answers and leaves, and what becomes of the work list
-use Rattle.std.specs.Prelude.{Bool, true, cond, not, ◌&&◌, ◌||◌, List, [], ◌∷◌, ◌++◌, ◌≡◌, ℕ, zero, suc, ◌*◌, ltb, leb, eqb, length, get_or}
+use Rattle.std.specs.Prelude.{Bool, true, cond, not, ◌&&◌, ◌||◌, List, [], ◌∷◌, ◌++◌, ◌≡◌, ℕ, zero, suc, ◌*◌, ltb, leb}
+use Rattle.std.specs.Prelude.{eqb, length, get_or}
 use Rattle.std.proofs.Math.Option.{Option, some}
 use Rattle.laws.specs.Search.{count, least, Refusal, refuse, refuse_least, ◌or_else◌}
 use Rattle.table.specs.declared.Limits.{Limits}

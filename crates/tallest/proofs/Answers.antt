@@ -45,6 +45,10 @@ pub record Within (L : Limits) (n : ℕ) (s : Table) (long : Bool) : Type 0 wher
   pub few : n ≤ L.nodes
   pub told : long ≡ all_long n (s.parents ∷ s.ranks ∷ [])
 
+pub within : {L : Limits} {n : ℕ} {s : Table} {long : Bool} → L ≡ large → (n ≡ 0 → ⊥) → n ≤ L.nodes
+    → long ≡ all_long n (s.parents ∷ s.ranks ∷ []) → Within L n s long
+within l z f t = record { is_large = l; some = z; few = f; told = t }
+
 module _ {L : Limits} {n : ℕ} {s : Table} {long : Bool} (c : Within L n s long) where
   pub not_long : not long ≡ true → record { answer = Refused 3 0; left = s } ≡ tallest large n s
   unfolding lent_fault

@@ -12,7 +12,8 @@
 --   read_tree L ..          == the reader: what it answers, and the two lists that it leaves
 --   write_tree L ..         == the writer: what it answers, and the bytes that it leaves
 --   Read, Wrote            == their contracts
-use Rattle.std.specs.Prelude.{true, cond, not, ◌&&◌, List, [], ◌∷◌, ◌++◌, ◌≡◌, ℕ, ◌+◌, ◌*◌, ◌/◌, ◌%◌, ltb, eqb, length, get_or}
+use Rattle.std.specs.Prelude.{true, cond, not, ◌&&◌, List, [], ◌∷◌, ◌++◌, ◌≡◌, ℕ, ◌+◌, ◌*◌, ◌/◌, ◌%◌, ltb, eqb, length}
+use Rattle.std.specs.Prelude.{get_or}
 use Rattle.std.proofs.Math.Option.{Option}
 use Rattle.laws.specs.Search.{tabulate, Refusal, refuse, ◌or_else◌, refused_or}
 use Rattle.table.specs.declared.Counted.{Counted}

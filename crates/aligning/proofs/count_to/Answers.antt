@@ -44,5 +44,6 @@ returns-then-far c =
 
 pub returns : goal.returns
 returns c =
-    counted c.requires.0 _ c.get.ensures.0 c.get-place.ensures.0 (omega arith) c.edge_slope-slope.ensures _ (omega arith)
+    counted c.requires.0 _ c.get.ensures.0 c.get-place.ensures.0 (omega arith) c.edge_slope-slope.ensures _
+    (omega arith)
     c.too_far-far.ensures (λ e. omega arith) c.if-far.false

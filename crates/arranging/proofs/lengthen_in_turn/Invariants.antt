@@ -7,7 +7,9 @@ use Rattle.arranging.proofs.Turns.{Turning}
 use Rattle.arranging.proofs.lengthen_in_turn.Given as goal
 
 abbrev pub invariant-loop-i : goal.invariant-loop-i
-invariant-loop-i l = Turning l.limits l.parent l.rank l.rule l.work (sheet_of (lent l.initial.times l.initial.x l.initial.y) l.held) l.lots l.counts
+invariant-loop-i l =
+    Turning l.limits l.parent l.rank l.rule l.work (sheet_of (lent l.initial.times l.initial.x l.initial.y) l.held)
+    l.lots l.counts
     (sheet_of (lent l.times l.x l.y) l.held) l.i
     × (length l.times ≡ length l.initial.times) × (length l.x ≡ length l.initial.x) × (length l.y ≡ length l.initial.y)
 

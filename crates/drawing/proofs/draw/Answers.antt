@@ -32,7 +32,8 @@ slope_before-before-requires c = backward_ready c.loop-j.invariant.0 c.loop-j-te
 pub loop-j-preserved : goal.loop-j-preserved
 loop-j-preserved c = (
   backward_step c.loop-j.invariant.0 c.loop-j-test.true c.slope_before-before.ensures,
-  laying_step c.loop-j.invariant.1 c.node_at-v.ensures c.get-p.ensures.0 (backward_edge c.loop-j.invariant.0 c.loop-j-test.true c.node_at-v.ensures)
+  laying_step c.loop-j.invariant.1 c.node_at-v.ensures c.get-p.ensures.0
+      (backward_edge c.loop-j.invariant.0 c.loop-j-test.true c.node_at-v.ensures)
       c.put-in-loop-j.ensures
       c.hang.ensures c.hang-in-loop-j.ensures,
 )

@@ -7,4 +7,5 @@ use Rattle.drawing.proofs.frame_of.Goals as goal
 
 pub returns : goal.returns
 unfolding frame
-returns c times = ap₂ (λ width height. Frame (width + 1) (height + 1)) c.largest_of-width.ensures c.largest_of-height.ensures
+returns c times =
+    ap₂ (λ width height. Frame (width + 1) (height + 1)) c.largest_of-width.ensures c.largest_of-height.ensures

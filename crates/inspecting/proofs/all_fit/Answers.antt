@@ -14,7 +14,13 @@ pub node_at-v-requires : goal.node_at-v-requires
 node_at-v-requires c = (c.loop-j.invariant.0.numbered, c.loop-j-test.true, c.loop-j.invariant.0.low)
 
 pub node_fits-fits-requires : goal.node_fits-fits-requires
-node_fits-fits-requires c = (c.requires.0, c.node_at-v.ensures.above, c.node_at-v.ensures.inside, backward_edge c.loop-j.invariant.0 c.loop-j-test.true c.node_at-v.ensures)
+node_fits-fits-requires c = (
+  c.requires.0,
+  c.node_at-v.ensures.above,
+  c.node_at-v.ensures.inside,
+  backward_edge c.loop-j.invariant.0
+      c.loop-j-test.true c.node_at-v.ensures,
+)
 
 pub slope_before-before-requires : goal.slope_before-before-requires
 slope_before-before-requires c = backward_ready c.loop-j.invariant.0 c.loop-j-test.true

@@ -10,7 +10,11 @@ unfolding Exported
 returns-then-reply-ne4 c = (c.if-reply-ne4.true, refl, (refl, refl))
 
 pub put_arranged-requires : goal.put_arranged-requires
-put_arranged-requires c = (c.if-reply-ne4.false, arranged_near _ _ _ _ _ _ _ c.lengthen_each-answer.ensures (omega (arith, c.well_formed.1.1.1.1.1.1.1.1.0.1)))
+put_arranged-requires c = (
+  c.if-reply-ne4.false,
+  arranged_near _ _ _ _ _ _ _ c.lengthen_each-answer.ensures
+      (omega (arith, c.well_formed.1.1.1.1.1.1.1.1.0.1)),
+)
 
 pub returns : goal.returns
 unfolding Exported

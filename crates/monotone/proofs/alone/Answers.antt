@@ -11,4 +11,9 @@ pub returns-then-up-ne0 : goal.returns-then-up-ne0
 returns-then-up-ne0 c = one (λ h. c.if-up-ne0.true (bits_zero _ h.1)) refl
 
 pub returns : goal.returns
-returns c = none (zero_bits _ c.requires.0.across_near c.if-across-ne0.false, zero_bits _ c.requires.0.up_near c.if-up-ne0.false) refl
+returns c =
+    none (
+      zero_bits _ c.requires.0.across_near c.if-across-ne0.false,
+      zero_bits _ c.requires.0.up_near
+          c.if-up-ne0.false,
+    ) refl

@@ -10,7 +10,7 @@ use Rattle.monotone.proofs.cones.Goals as goal
 pub cones_up-requires : goal.cones_up-requires
 cones_up-requires c =
     record {
-      with_edges = ((edges_stay c.clear.ensures.1 c.requires.0), c.requires.2);
+      with_edges = (edges_stay c.clear.ensures.1 c.requires.0, c.requires.2);
       zeroed = c.clear.ensures.0;
     }
 
@@ -20,26 +20,28 @@ loop-j-init c =
     c.requires.1) c.cones_up.ensures.row
 
 pub visit-requires : goal.visit-requires
-visit-requires c = (
-  (edges_stay c.loop-j.invariant.only (edges_away c.cones_up.ensures.away c.cones_up.ensures.only.long (edges_stay c.clear.ensures.1 c.requires.0))),
-  subst⁻¹ (Reached c.args.parent.now c.loop-j.work) c.get-v.ensures.0
-      (spreading_reached c.requires.0.tree c.requires.2 (edges_away c.cones_up.ensures.away c.cones_up.ensures.only.long (edges_stay c.clear.ensures.1 c.requires.0)).edges
-      c.loop-j-test.true
-      c.loop-j.invariant),
-)
+visit-requires c =
+    let climbed = edges_away c.cones_up.ensures.away c.cones_up.ensures.only.long
+    (edges_stay c.clear.ensures.1 c.requires.0) in (
+      edges_stay c.loop-j.invariant.only climbed,
+      subst⁻¹ (Reached c.args.parent.now c.loop-j.work) c.get-v.ensures.0
+          (spreading_reached c.requires.0.tree c.requires.2 climbed.edges c.loop-j-test.true c.loop-j.invariant),
+    )
 
 pub loop-j-preserved : goal.loop-j-preserved
 loop-j-preserved c =
-    spreading_step c.requires.0.tree c.requires.2 (edges_away c.cones_up.ensures.away c.cones_up.ensures.only.long (edges_stay c.clear.ensures.1 c.requires.0)).edges c.loop-j-test.true
-    c.loop-j.invariant
+    let climbed = edges_away c.cones_up.ensures.away c.cones_up.ensures.only.long
+    (edges_stay c.clear.ensures.1 c.requires.0) in
+    spreading_step c.requires.0.tree c.requires.2 climbed.edges c.loop-j-test.true c.loop-j.invariant
     (subst (λ (v : ℕ). ConeKnown c.args.parent.now c.loop-j.work v c.visit.new.work)
     c.get-v.ensures.0 c.visit.ensures)
 
 pub turn-requires : goal.turn-requires
-turn-requires c = ((edges_stay c.loop-j.invariant.only (edges_away c.cones_up.ensures.away c.cones_up.ensures.only.long (edges_stay c.clear.ensures.1 c.requires.0))), c.requires.2)
+turn-requires c =
+    let climbed = edges_away c.cones_up.ensures.away c.cones_up.ensures.only.long
+    (edges_stay c.clear.ensures.1 c.requires.0) in
+    (edges_stay c.loop-j.invariant.only climbed, c.requires.2)
 
 pub returns : goal.returns
 returns c =
-    (coned c.clear.ensures.1 c.cones_up.ensures
-    c.loop-j-test.false
-    c.loop-j.invariant c.turn.ensures)
+    coned c.clear.ensures.1 c.cones_up.ensures c.loop-j-test.false c.loop-j.invariant c.turn.ensures

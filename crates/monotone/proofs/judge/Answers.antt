@@ -13,5 +13,6 @@ pairs-requires c = (
 
 pub returns : goal.returns
 returns c =
-    c.pairs.ensures c.args.x.now c.args.y.now (drawn c.requires c.number.ensures c.offsets.ensures.drawn_part c.offsets.ensures.only
+    c.pairs.ensures c.args.x.now c.args.y.now
+    (drawn c.requires c.number.ensures c.offsets.ensures.drawn_part c.offsets.ensures.only
     c.offsets-2.ensures.drawn_part c.offsets-2.ensures.only)

@@ -15,14 +15,17 @@ get-above-requires c =
     omega arith
 
 pub put-requires : goal.put-requires
-put-requires c = (
-  omega arith,
-  omega (arith, (let below_near : c.get-below.result ≤ 2147483647 = omega (arith, c.get-below.ensures.0, c.requires.0.within c.loop-z.z (c.loop-z-test.true)) in below_near)),
-)
+put-requires c =
+    let below_near : c.get-below.result ≤ 2147483647 = omega (
+      arith,
+      c.get-below.ensures.0,
+      c.requires.0.within c.loop-z.z c.loop-z-test.true,
+    ) in
+    (omega arith, omega arith)
 
 pub loop-z-preserved : goal.loop-z-preserved
 loop-z-preserved c =
-    offsetting_step c.requires.0 c.requires.1 (c.loop-z-test.true) c.loop-z.invariant
+    offsetting_step c.requires.0 c.requires.1 c.loop-z-test.true c.loop-z.invariant
     (c.put.ensures
     ∙ ap₂ (λ (a b : ℕ). set c.loop-z.work (c.args.at + c.loop-z.z) (a + 2147483648 - b))
     c.get-below.ensures.0 (c.get-above.ensures.0 ∙ ap (λ (p : ℕ). get_or c.args.c.now p 0) c.get-p.ensures.0))
@@ -38,4 +41,9 @@ pub get-p-requires : goal.get-p-requires
 get-p-requires c = c.loop-z-test.true
 
 pub overflow_sub-below : goal.overflow_sub-below
-overflow_sub-below c = omega (arith, (let above_near : c.get-above.result ≤ 2147483647 = omega (arith, (c.get-above.ensures.0 ∙ ap (λ (p : ℕ). get_or c.args.c.now p 0) c.get-p.ensures.0), c.requires.0.within _ (c.requires.0.inside c.loop-z.z (c.loop-z-test.true))) in above_near))
+overflow_sub-below c =
+    omega (
+      arith,
+      c.get-above.ensures.0 ∙ ap (λ (p : ℕ). get_or c.args.c.now p 0) c.get-p.ensures.0,
+      c.requires.0.within _ (c.requires.0.inside c.loop-z.z c.loop-z-test.true),
+    )

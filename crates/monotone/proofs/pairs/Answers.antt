@@ -41,7 +41,7 @@ pairs-preserved c =
     record {
       most = omega arith;
       only = (only_trans c.pairs.invariant.only c.cones.ensures.only);
-      passed = passed_row c.requires.0.tree (c.pairs-test.true) c.pairs.invariant.only
+      passed = passed_row c.requires.0.tree c.pairs-test.true c.pairs.invariant.only
           c.cones.ensures
           c.pairs.invariant.passed c.loop-v.invariant.clear c.loop-v-test.false;
       still = c.loop-v.invariant.still;
@@ -54,6 +54,6 @@ returns-after-pairs c x y d =
 
 pub returns-then-get-eq-SHUT : goal.returns-then-get-eq-SHUT
 returns-then-get-eq-SHUT c =
-    first_turn c.requires.0.tree (c.pairs-test.true) c.pairs.invariant.only c.cones.ensures
+    first_turn c.requires.0.tree c.pairs-test.true c.pairs.invariant.only c.cones.ensures
     c.pairs.invariant.passed c.loop-v.invariant.clear c.loop-v.invariant.past c.loop-v-test.true
     (sym c.get.ensures.0 ∙ c.if-get-eq-SHUT.true)

@@ -12,6 +12,7 @@ overflow_sub-result c = part_fits c.get-number.result (omega arith) c.get-number
 pub returns : goal.returns
 returns c =
     let some : 1 ≤ c.get-number.result = omega arith in (
-      part_is c.get-number.result some c.get-number.ensures.1 ∙ ap (λ (n : ℕ). pos n -ℤ pos 2147483648) c.get-number.ensures.0,
+      part_is c.get-number.result some c.get-number.ensures.1
+          ∙ ap (λ (n : ℕ). pos n -ℤ pos 2147483648) c.get-number.ensures.0,
       part_small c.get-number.result some c.get-number.ensures.1,
     )

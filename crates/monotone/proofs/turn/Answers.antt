@@ -11,7 +11,12 @@ pub loop-z-init : goal.loop-z-init
 loop-z-init c = (turning_start c.requires.0.tree c.requires.1, only_refl _ _ _)
 
 pub turn_edge-requires : goal.turn_edge-requires
-turn_edge-requires c = (turning_edges c.loop-z.invariant.0 c.loop-z.invariant.1.long c.requires.0.edges, c.loop-z-test.true, c.loop-z.invariant.0.inside)
+turn_edge-requires c = (
+  turning_edges c.loop-z.invariant.0 c.loop-z.invariant.1.long
+      c.requires.0.edges,
+  c.loop-z-test.true,
+  c.loop-z.invariant.0.inside,
+)
 
 pub loop-z-smaller : goal.loop-z-smaller
 loop-z-smaller c =
@@ -29,7 +34,12 @@ loop-z-preserved c = (
 )
 
 pub returns : goal.returns
-returns c = record { away = turning_end c.requires.0.tree c.loop-z-test.false c.loop-z.invariant.0; only = c.loop-z.invariant.1 }
+returns c =
+    record {
+      away = turning_end c.requires.0.tree c.loop-z-test.false c.loop-z.invariant.0;
+      only
+          = c.loop-z.invariant.1;
+    }
 
 pub shape_of-work : goal.shape_of-work
 shape_of-work c = c.loop-z.invariant.1.long

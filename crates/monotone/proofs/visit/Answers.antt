@@ -30,6 +30,7 @@ grow-next-requires c =
 pub returns : goal.returns
 returns c =
     grown c.grow-next.result (sym c.get-known.ensures.0 ∙ c.if-known-ne0.false)
-    (subst (λ (k : ℕ). Grown (length c.args.parent.now) (edge_at (length c.args.parent.now) c.args.work.now) k c.args.v c.grow-next.result)
+    (subst (λ (k : ℕ). Grown (length c.args.parent.now) (edge_at (length c.args.parent.now) c.args.work.now) k
+    c.args.v c.grow-next.result)
     (c.get-cone.ensures.0 ∙ ap (λ (p : ℕ). get_or c.args.work.now p 0) c.get-p.ensures.0) c.grow-next.ensures)
     c.put.ensures

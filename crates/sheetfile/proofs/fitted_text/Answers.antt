@@ -15,7 +15,8 @@ put_sheet-requires c =
     c.requires.rank c.requires.work c.in-Nodes.is in
     let steep =
     drawn_fresh table _ _ _ c.layout.ensures.says
-    (record { times = c.requires.times; x = c.requires.steep_x; y = c.requires.steep_y; held = c.requires.held }) work in
+    (record { times = c.requires.times; x = c.requires.steep_x; y = c.requires.steep_y; held = c.requires.held }) work
+    in
     let balanced =
     drawn_fresh table _ _ _ c.layout-in-Nodes.ensures.says (record {
       times = times_long table _ steep;
@@ -46,7 +47,8 @@ returns-in-Nodes c =
     c.requires.rank c.requires.work c.in-Nodes.is in
     let steep =
     drawn_fresh table _ _ _ c.layout.ensures.says
-    (record { times = c.requires.times; x = c.requires.steep_x; y = c.requires.steep_y; held = c.requires.held }) work in
+    (record { times = c.requires.times; x = c.requires.steep_x; y = c.requires.steep_y; held = c.requires.held }) work
+    in
     let balanced =
     drawn_fresh table _ _ _ c.layout-in-Nodes.ensures.says (record {
       times = times_long table _ steep;

@@ -13,10 +13,12 @@ pub mediant-middle-requires : goal.mediant-middle-requires
 mediant-middle-requires c = walk_fits c.loop-bit.invariant c.requires.0
 
 pub loop-bit-preserved-then-turn-eq1 : goal.loop-bit-preserved-then-turn-eq1
-loop-bit-preserved-then-turn-eq1 c = rw c.mediant-middle.ensures (walk_right c.loop-bit.invariant c.loop-bit-test.true c.if-turn-eq1.true)
+loop-bit-preserved-then-turn-eq1 c =
+    rw c.mediant-middle.ensures (walk_right c.loop-bit.invariant c.loop-bit-test.true c.if-turn-eq1.true)
 
 pub loop-bit-preserved : goal.loop-bit-preserved
-loop-bit-preserved c = rw c.mediant-middle.ensures (walk_left c.loop-bit.invariant c.loop-bit-test.true c.if-turn-eq1.false)
+loop-bit-preserved c =
+    rw c.mediant-middle.ensures (walk_left c.loop-bit.invariant c.loop-bit-test.true c.if-turn-eq1.false)
 
 pub mediant-requires : goal.mediant-requires
 mediant-requires c = walk_fits c.loop-bit.invariant c.requires.0
@@ -25,4 +27,5 @@ pub returns : goal.returns
 returns c = c.mediant.ensures ∙ walk_end c.loop-bit.invariant c.loop-bit-test.false
 
 pub overflow_sub-bit : goal.overflow_sub-bit
-overflow_sub-bit c = omega (arith, ends_below _ _ _ (trailing_ends 32 c.args.j c.requires.1 c.ranges.j.fits) c.requires.2)
+overflow_sub-bit c =
+    omega (arith, ends_below _ _ _ (trailing_ends 32 c.args.j c.requires.1 c.ranges.j.fits) c.requires.2)

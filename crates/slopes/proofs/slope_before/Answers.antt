@@ -5,12 +5,14 @@ use Rattle.slopes.proofs.slope_before.Goals as goal
 
 pub part_before-requires : goal.part_before-requires
 part_before-requires c =
-    let fits = fits_across c.in-Balanced.is c.requires.0 c.requires.1 c.requires.2 c.requires.3 c.multiple_at-times.ensures.0 in
+    let fits = fits_across c.in-Balanced.is c.requires.0 c.requires.1 c.requires.2 c.requires.3
+    c.multiple_at-times.ensures.0 in
     (c.multiple_at-times.ensures.1, fits.0, fits.1)
 
 pub part_before-requires-in-Balanced : goal.part_before-requires-in-Balanced
 part_before-requires-in-Balanced c =
-    let fits = fits_up c.in-Balanced.is c.requires.0 c.requires.1 c.requires.2 c.requires.3 c.multiple_at-times.ensures.0 in
+    let fits = fits_up c.in-Balanced.is c.requires.0 c.requires.1 c.requires.2 c.requires.3
+    c.multiple_at-times.ensures.0 in
     (c.multiple_at-times.ensures.1, fits.0, fits.1)
 
 pub returns-in-Steep : goal.returns-in-Steep

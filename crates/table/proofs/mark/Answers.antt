@@ -21,4 +21,6 @@ loop-i-preserved c =
     c.get-u.ensures.0
 
 pub returns : goal.returns
-returns c = let both = passing_end c.requires c.loop-i.invariant c.loop-i-test.false in record { marking = both.0; only = both.1 }
+returns c =
+    let both = passing_end c.requires c.loop-i.invariant c.loop-i-test.false in record
+    { marking = both.0; only = both.1 }

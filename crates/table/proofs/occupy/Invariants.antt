@@ -6,7 +6,9 @@ use Rattle.table.specs.Parts.{Seating}
 use Rattle.table.proofs.occupy.Given as goal
 
 abbrev pub invariant-loop-v : goal.invariant-loop-v
-invariant-loop-v l = Seating l.parent l.rank l.work l.v × (l.v ≤ length l.parent) × Only (length l.parent + 1) (2 * length l.parent) l.initial.work l.work
+invariant-loop-v l =
+    Seating l.parent l.rank l.work l.v × (l.v ≤ length l.parent)
+    × Only (length l.parent + 1) (2 * length l.parent) l.initial.work l.work
 
 abbrev pub decreases-loop-v : goal.decreases-loop-v
 decreases-loop-v l = length l.parent - l.v

@@ -11,7 +11,8 @@ pub loop-c-init : goal.loop-c-init
 loop-c-init c = (walking_start c.requires c.leaf-v.ensures, refl)
 
 pub overflow_add-c : goal.overflow_add-c
-overflow_add-c c = omega (arith, visited_room c.loop-c.invariant.0.visited c.loop-c.invariant.0.inside c.loop-c.invariant.0.number)
+overflow_add-c c =
+    omega (arith, visited_room c.loop-c.invariant.0.visited c.loop-c.invariant.0.inside c.loop-c.invariant.0.number)
 
 pub visit-requires : goal.visit-requires
 visit-requires c = (c.loop-c.invariant.0.visited, c.loop-c.invariant.0.inside, c.loop-c.invariant.0.number)

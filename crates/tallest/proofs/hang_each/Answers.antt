@@ -9,7 +9,11 @@ pub loop-v-init : goal.loop-v-init
 loop-v-init c = hanging_start c.args.parent.now c.requires.0 c.put.ensures
 
 pub loop-v-preserved : goal.loop-v-preserved
-loop-v-preserved c = hanging_step c.loop-v.invariant (omega (arith, (root_long c.args.parent.now c.requires.0 c.put.ensures))) c.put-in-loop-v.ensures
+loop-v-preserved c =
+    let long = root_long c.args.parent.now c.requires.0 c.put.ensures in
+    hanging_step c.loop-v.invariant (omega (arith, long)) c.put-in-loop-v.ensures
 
 pub returns : goal.returns
-returns c = hanging_end c.loop-v.invariant (omega (arith, (root_long c.args.parent.now c.requires.0 c.put.ensures))) ∙ ap (λ k. (chain_of k).parents) (root_long c.args.parent.now c.requires.0 c.put.ensures)
+returns c =
+    let long = root_long c.args.parent.now c.requires.0 c.put.ensures in
+    hanging_end c.loop-v.invariant (omega (arith, long)) ∙ ap (λ k. (chain_of k).parents) long

@@ -2,7 +2,7 @@
 use mathlib.Core.Bool.{not}
 use mathlib.Core.Path.{ap}
 use native.Mathlib.Omega.{arith}
-use Rattle.tallest.proofs.Answers.{no_nodes, too_many, not_long, height_fits, parents_fit, filled}
+use Rattle.tallest.proofs.Answers.{no_nodes, too_many, within, not_long, height_fits, parents_fit, filled}
 use Rattle.tallest.proofs.tallest.Goals as goal
 
 pub returns-then-n-eq0 : goal.returns-then-n-eq0
@@ -13,51 +13,27 @@ returns-then-most-n c = too_many _ _ c.large_limits-limits.ensures c.if-n-eq0.fa
 
 pub returns-then-not-long : goal.returns-then-not-long
 returns-then-not-long c =
-    not_long (record {
-      is_large = c.large_limits-limits.ensures;
-      some = c.if-n-eq0.false;
-      few = omega arith;
-      told = c.both_long-long.ensures;
-    }) (ap not c.if-not-long.true)
+    not_long (within c.large_limits-limits.ensures c.if-n-eq0.false (omega arith) c.both_long-long.ensures)
+    (ap not c.if-not-long.true)
 
 pub hang_each-requires : goal.hang_each-requires
 hang_each-requires c =
-    parents_fit (record {
-      is_large = c.large_limits-limits.ensures;
-      some = c.if-n-eq0.false;
-      few = omega arith;
-      told = c.both_long-long.ensures;
-    }) (ap not c.if-not-long.false)
+    parents_fit (within c.large_limits-limits.ensures c.if-n-eq0.false (omega arith) c.both_long-long.ensures)
+    (ap not c.if-not-long.false)
 
 pub overflow_mul-result : goal.overflow_mul-result
 overflow_mul-result c =
-    omega (
-      arith,
-      (height_fits (record {
-        is_large = c.large_limits-limits.ensures;
-        some = c.if-n-eq0.false;
-        few = omega arith;
-        told = c.both_long-long.ensures;
-      })).0,
-    )
+    let fits = height_fits
+    (within c.large_limits-limits.ensures c.if-n-eq0.false (omega arith) c.both_long-long.ensures) in
+    omega (arith, fits.0)
 
 pub overflow_add-result : goal.overflow_add-result
 overflow_add-result c =
-    omega (
-      arith,
-      (height_fits (record {
-        is_large = c.large_limits-limits.ensures;
-        some = c.if-n-eq0.false;
-        few = omega arith;
-        told = c.both_long-long.ensures;
-      })).1,
-    )
+    let fits = height_fits
+    (within c.large_limits-limits.ensures c.if-n-eq0.false (omega arith) c.both_long-long.ensures) in
+    omega (arith, fits.1)
 
 pub returns : goal.returns
 returns c =
-    filled (record {
-      is_large = c.large_limits-limits.ensures;
-      some = c.if-n-eq0.false;
-      few = omega arith;
-      told = c.both_long-long.ensures;
-    }) (ap not c.if-not-long.false) c.hang_each.ensures c.rank_each.ensures
+    filled (within c.large_limits-limits.ensures c.if-n-eq0.false (omega arith) c.both_long-long.ensures)
+    (ap not c.if-not-long.false) c.hang_each.ensures c.rank_each.ensures

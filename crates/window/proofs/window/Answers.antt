@@ -30,14 +30,16 @@ pub overflow_sub-x : goal.overflow_sub-x
 overflow_sub-x c = (within_says _ _ _ (tested _ _ _ c.if-m-gt31.false c.is_within.ensures ∙ c.if-not-is_within.false)).0
 
 pub overflow_sub-y : goal.overflow_sub-y
-overflow_sub-y c = (within_says _ _ _ (tested _ _ _ c.if-m-gt31.false c.is_within-2.ensures ∙ c.if-not-is_within-2.false)).0
+overflow_sub-y c =
+    (within_says _ _ _ (tested _ _ _ c.if-m-gt31.false c.is_within-2.ensures ∙ c.if-not-is_within-2.false)).0
 
 pub returns : goal.returns
 unfolding Says inside
 returns c =
     record {
       accepted = no_wider _ _ c.if-m-gt31.false;
-      shown = both_is (tested _ _ _ c.if-m-gt31.false c.is_within.ensures ∙ c.if-not-is_within.false) (tested _ _ _ c.if-m-gt31.false c.is_within-2.ensures ∙ c.if-not-is_within-2.false);
+      shown = both_is (tested _ _ _ c.if-m-gt31.false c.is_within.ensures ∙ c.if-not-is_within.false)
+          (tested _ _ _ c.if-m-gt31.false c.is_within-2.ensures ∙ c.if-not-is_within-2.false);
       across = c.scaled.ensures;
       up = c.scaled-2.ensures;
     }
