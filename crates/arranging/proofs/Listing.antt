@@ -12,8 +12,8 @@ use Rattle.laws.specs.Refusals.{refusal, or_else_first, or_else_second, refuse_y
 use Rattle.laws.specs.Search.{Refusal, refuse, refuse_least, ◌or_else◌, Outcome}
 use Rattle.table.specs.Acceptance.{validity, validity-accepted, validity_refused}
 use Rattle.table.specs.declared.Limits.{Limits}
-use Rattle.table.specs.declared.Validity.{Validity}
-use Rattle.table.specs.declared.Validity.TheVariants.{Accepted, Refused}
+use Rattle.table.specs.Validity.{Validity}
+use Rattle.table.specs.Validity.{Accepted, Refused}
 use Rattle.table.specs.Table.{shape_fault, tree_fault, table_fault, Called}
 use Rattle.slopes.specs.declared.Rule.{Rule}
 use Rattle.drawing.specs.Drawing.{Sheet, lengths_fit, lot_fits, sheet_fault}

@@ -8,8 +8,8 @@ use native.Mathlib.Omega.{arith}
 use lib.ListN.{length, get_or, drop, drop_of_length-le}
 use lib.Seq.{drop-cons}
 use Rattle.table.specs.declared.Limits.{Limits}
-use Rattle.table.specs.declared.Validity.{Validity}
-use Rattle.table.specs.declared.Validity.TheVariants.{Accepted, Refused}
+use Rattle.table.specs.Validity.{Validity}
+use Rattle.table.specs.Validity.{Accepted, Refused}
 use Rattle.slopes.specs.declared.Rule.{Rule}
 use Rattle.drawing.specs.declared.Framed.{Framed}
 use Rattle.drawing.specs.Drawing.{Sheet, frame}

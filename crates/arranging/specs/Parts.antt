@@ -4,8 +4,8 @@
 use Rattle.std.specs.Prelude.{List, ◌≡◌, length, ℕ}
 use Rattle.table.specs.Acceptance.{validity}
 use Rattle.table.specs.declared.Limits.{Limits}
-use Rattle.table.specs.declared.Validity.{Validity}
-use Rattle.table.specs.declared.Validity.TheVariants.{Accepted}
+use Rattle.table.specs.Validity.{Validity}
+use Rattle.table.specs.Validity.{Accepted}
 use Rattle.table.specs.Parts.{Spared}
 use Rattle.slopes.specs.declared.Rule.{Rule}
 use Rattle.drawing.specs.Drawing.{Sheet}

@@ -19,6 +19,7 @@ use native.Mathlib.Omega.{arith}
 use Rattle.std.proofs.Math.Dec.{eqb}
 use Rattle.std.proofs.Math.ListN.{length, get_or}
 use borrow.Author.Tests.{eq-eqb, le-ltb}
+use Rattle.faults.specs.Numbers.{number}
 use Rattle.laws.specs.Refusals.{or_else_second, or_else_none, refuse_least_all}
 use Rattle.laws.specs.Search.{Refusal, refused_or, Outcome, settle}
 use Rattle.laws.specs.Tests.{by_eq, differ, neither_is}
@@ -329,7 +330,7 @@ module _ (L : Limits) (fit : LimitsFit L) (P R : List ℕ) (rule : Rule) (long :
   unfolding check_fault place_beyond all_long t
   unrefused h =
       or_else_second _ _ (accepted-within L checked P R long _ work fine h lists)
-      ∙ refuse_least_all checked.far (length P) (place_beyond checked.place t.x t.y) near
+      ∙ refuse_least_all (number checked.far) (length P) (place_beyond checked.place t.x t.y) near
     where
       lists : all_long (length P) (t.x ∷ t.y ∷ []) ≡ true
       lists = rw (eq-eqb _ _ r.sound.drawn.x.long, eq-eqb _ _ r.sound.drawn.y.long) refl

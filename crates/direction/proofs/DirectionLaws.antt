@@ -10,6 +10,7 @@ use Rattle.std.proofs.Common.{⊎_elim, sym, ap, subst, ◌∙◌, arith, leb-fa
 use Rattle.std.proofs.Math.Option.{Option, none, some}
 use Rattle.std.proofs.Math.IntN.{neg_ℤ-neg_ℤ}
 use Rattle.std.proofs.lemmas.Bool.{lt-leb}
+use Rattle.faults.specs.Numbers.{number}
 use Rattle.laws.specs.Refusals.{or_else_second, or_else_some, refuse_no, refuse_number}
 use Rattle.laws.specs.Search.{Refusal, refused_or, ◌or_else◌}
 use Rattle.laws.specs.Tests.{by_test, neither_is}
@@ -66,7 +67,7 @@ heading_number P R s u v (suc i) (suc j) =
     by_test (ltb (rank R (climb P i u)) (rank R (climb P j v))) (λ t. rw t refl) (λ t. rw t refl)
 
 -- no input gets it, at any limits that have another number for too many nodes
-pub direction_without_13 : (L : Limits) (P R : List ℕ) (rule : Rule) (work u v : ℕ) → L.many ≢ 13
+pub direction_without_13 : (L : Limits) (P R : List ℕ) (rule : Rule) (work u v : ℕ) → (number L.many) ≢ 13
     → number_of (direction L P R rule work u v) ≢ 13
 unfolding direction pair_fault
 direction_without_13 L P R rule work u v many =

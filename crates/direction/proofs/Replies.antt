@@ -9,8 +9,8 @@ use lib.ListN.{length}
 use Rattle.laws.specs.Refusals.{or_else_first, or_else_second, refuse_yes, refuse_no}
 use Rattle.laws.specs.Search.{Refusal, refused_or}
 use Rattle.table.specs.declared.Limits.{Limits}
-use Rattle.table.specs.declared.Validity.{Validity}
-use Rattle.table.specs.declared.Validity.TheVariants.{Accepted, Refused as Invalid}
+use Rattle.table.specs.Validity.{Validity}
+use Rattle.table.specs.Validity.{Accepted, Refused as Invalid}
 use Rattle.table.specs.Table.{large}
 use Rattle.table.specs.Acceptance.{accepting}
 use Rattle.table.specs.Parts.{Prepared, fault, no_fault}

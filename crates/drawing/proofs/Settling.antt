@@ -10,8 +10,8 @@ use Rattle.laws.specs.Refusals.{settle-none, settle_some}
 use Rattle.laws.specs.Regions.{Only}
 use Rattle.table.specs.Acceptance.{accepting}
 use Rattle.table.specs.declared.Limits.{Limits}
-use Rattle.table.specs.declared.Validity.{Validity}
-use Rattle.table.specs.declared.Validity.TheVariants.{Accepted, Refused}
+use Rattle.table.specs.Validity.{Validity}
+use Rattle.table.specs.Validity.{Accepted, Refused}
 use Rattle.table.specs.Parts.{Zeroed, Tested, fault, no_fault}
 use Rattle.table.specs.Parts as table
 use Rattle.table.specs.Table.{table_fault}

@@ -10,7 +10,7 @@ use Rattle.std.specs.Prelude.{List, ◌≡◌, ℕ, ◌+◌, ◌^◌, ◌<◌, l
 use Rattle.std.proofs.Math.Path.{subst⁻¹}
 use Rattle.std.proofs.Common.{arith}
 use Rattle.table.specs.declared.Limits.{Limits}
-use Rattle.table.specs.declared.Validity.{Validity}
+use Rattle.table.specs.Validity.{Validity}
 use Rattle.table.specs.Numbering.{NumberedTree}
 use Rattle.table.specs.Parts.{Tested}
 use Rattle.table.specs.Table.{table_fault}

@@ -20,7 +20,7 @@ use Rattle.std.specs.Float.Ieee.{fits}
 use Rattle.std.specs.Float.Ieee.Exact.{HasValue}
 use Rattle.laws.specs.Refusals.{refusal}
 use Rattle.laws.specs.Search.{count, least, tabulate, Outcome}
-use Rattle.table.specs.declared.Counted.TheVariants.{Nodes}
+use Rattle.table.specs.Counted.{Nodes}
 use Rattle.table.specs.Table.{climb, leads, is_child, children, is_child_at, child_at, under, steps_up, forest}
 use Rattle.table.specs.Table.{postorder}
 use Rattle.table.specs.Table.{place, order, post_number, has_number, first_number, large, small, checked}

@@ -9,8 +9,8 @@ use Rattle.laws.specs.Search.{least, refuse_least}
 use Rattle.laws.specs.SearchLaws.{least_either, least_cong}
 use Rattle.laws.specs.Tests.{not_both}
 use Rattle.table.specs.declared.Limits.{Limits}
-use Rattle.table.specs.declared.Validity.{Validity}
-use Rattle.table.specs.declared.Validity.TheVariants.{Accepted, Refused}
+use Rattle.table.specs.Validity.{Validity}
+use Rattle.table.specs.Validity.{Accepted, Refused}
 use Rattle.table.specs.Parts.{fault, no_fault, refused_later, accepted_later}
 use Rattle.slopes.specs.declared.Rule.{Rule}
 use Rattle.drawing.specs.Drawing.{Sheet, node_fits, held_fits, lot_fits, sheet_fault}

@@ -8,7 +8,7 @@
 --   Inspecting L .. r      == the answer r is refusals 1 to 8 of a call on the sheet s
 use Rattle.std.specs.Prelude.{Bool, true, false, not, ◌&&◌, List, ◌≡◌, ℕ, ◌+◌, ◌<◌, leb, eqb, length, get_or}
 use Rattle.table.specs.declared.Limits.{Limits}
-use Rattle.table.specs.declared.Validity.{Validity}
+use Rattle.table.specs.Validity.{Validity}
 use Rattle.table.specs.Parts.{Tested}
 use Rattle.slopes.specs.declared.Rule.{Rule}
 use Rattle.drawing.specs.Drawing.{Drawing, Sheet, lengths_fit, node_fits, held_fits, sheet_fault}

@@ -6,13 +6,14 @@ use mathlib.Core.Path.{◌≡◌, refl, sym, ap, subst, subst⁻¹, ◌∙◌}
 use Prim.Native.Nat.{ℕ, ◌+◌, ◌*◌, ◌≤◌, ◌<◌}
 use native.Mathlib.Omega.{arith}
 use lib.ListN.{length, get_or}
+use Rattle.faults.specs.Numbers.{number}
 use Rattle.laws.specs.Refusals.{refusal, or_else_first, or_else_second, refuse_least_yes, refuse_least_no}
 use Rattle.laws.specs.Regions.{Only}
 use Rattle.laws.specs.Search.{least, Refusal}
 use Rattle.laws.specs.SearchLaws.{least-none}
 use Rattle.table.specs.Acceptance.{Accepting, accepting, two_long, not_spared, validity-accepted, validity_refused}
 use Rattle.table.specs.declared.Limits.{Limits}
-use Rattle.table.specs.declared.Validity.TheVariants.{Accepted, Refused}
+use Rattle.table.specs.Validity.{Accepted, Refused}
 use Rattle.table.specs.Numbering.{Numbering, Numbered}
 use Rattle.table.proofs.NumberingLaws.{numbering, number_at}
 use Rattle.table.specs.Table.{order, post_number, all_long, shape_fault, table_fault, large, farthest}
@@ -108,10 +109,10 @@ module _ (x y : List ℕ) {L : Limits} {P R : List ℕ} {long : Bool} {W X : Lis
 
       -- refusal 15
       pub checked_far : {Y : List ℕ} → length Y ≡ length W → v < length P → Checked L P R x y W Y (verdict.Refused
-          L.far v)
+          (number L.far) v)
       unfolding Says check_fault
       checked_far same l = record {
-        says = or_else_second _ _ accepted ∙ refuse_least_yes L.far (length P) (place_beyond L.place x y) v far_is l;
+        says = or_else_second _ _ accepted ∙ refuse_least_yes (number L.far) (length P) (place_beyond L.place x y) v far_is l;
         spared = passed;
         long = same;
       }
@@ -121,7 +122,7 @@ module _ (x y : List ℕ) {L : Limits} {P R : List ℕ} {long : Bool} {W X : Lis
         unfolding check_fault
         no_fault =
             or_else_second _ _ accepted
-            ∙ refuse_least_no L.far (length P) (place_beyond L.place x y) v far_is near
+            ∙ refuse_least_no (number L.far) (length P) (place_beyond L.place x y) v far_is near
 
         -- no refusal
         pub checked-found : {Y : List ℕ} → length Y ≡ length W → (r : Verdict) → Found P x y r → Checked L P R x y W Y r

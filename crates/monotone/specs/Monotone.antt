@@ -9,6 +9,7 @@
 --   Checked L .. W X r        == the check's contract; W and X are the work list at entry and at exit
 use Rattle.std.specs.Prelude.{Bool, ◌||◌, List, [], ◌∷◌, ◌⊎◌, ◌≡◌, ℕ, ◌<◌, ltb, ℤ, length, get_or}
 use Rattle.std.proofs.Math.Option.{Option, none, some}
+use Rattle.faults.specs.Numbers.{number}
 use Rattle.laws.specs.Search.{Refusal, refuse_least, ◌or_else◌}
 use Rattle.table.specs.Paths.{PathRises}
 use Rattle.table.specs.Table.{all_long, shape_fault, table_fault, Called}
@@ -33,7 +34,7 @@ place_beyond place x y v = ltb place (get_or x v 0) || ltb place (get_or y v 0)
 unfoldable pub check_fault : Limits → List ℕ → List ℕ → List ℕ → List ℕ → ℕ → Option Refusal
 check_fault L P R x y work =
     table_fault L P R (all_long (length P) (x ∷ y ∷ [])) work
-    or_else refuse_least L.far (length P) (place_beyond L.place x y)
+    or_else refuse_least (number L.far) (length P) (place_beyond L.place x y)
 
 pub record AllDirected (P x y : List ℕ) : Type 0 where
   pub directed : (u v : ℕ) → u < v → v < length P → HasDirection P x y u v

@@ -8,10 +8,10 @@ use lib.ListN.{length, get_or}
 use Rattle.laws.specs.Refusals.{settle-none, settle_some}
 use Rattle.laws.specs.SearchLaws.{tabulate_is}
 use Rattle.table.specs.Acceptance.{Shape, accepting, two_long}
-use Rattle.table.specs.declared.Counted.TheVariants.{Nodes, Refused}
+use Rattle.table.specs.Counted.{Nodes, Refused}
 use Rattle.table.specs.declared.Limits.{Limits}
-use Rattle.table.specs.declared.Validity.{Validity}
-use Rattle.table.specs.declared.Validity.TheVariants.{Accepted, Refused as Invalid}
+use Rattle.table.specs.Validity.{Validity}
+use Rattle.table.specs.Validity.{Accepted, Refused as Invalid}
 use Rattle.table.specs.Numbering.{Numbered}
 use Rattle.table.specs.Parts.{Copied, Prepared, fault, no_fault}
 use Rattle.table.specs.Table.{large, first_number, post_number}

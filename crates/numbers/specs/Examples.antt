@@ -1,8 +1,8 @@
 -- Calls that are easy to get wrong, computed: one table of cases, one theorem.
 use Rattle.std.specs.Prelude.{List, [], ◌∷◌, map, ◌≡◌, refl, ℕ, ◌*◌, length}
 use Rattle.laws.specs.Search.{count, least, tabulate, Outcome}
-use Rattle.table.specs.declared.Counted.{Counted}
-use Rattle.table.specs.declared.Counted.TheVariants.{Nodes, Refused}
+use Rattle.table.specs.Counted.{Counted}
+use Rattle.table.specs.Counted.{Nodes, Refused}
 use Rattle.table.specs.Table.{climb, leads, is_child, children, is_child_at, child_at, under, forest, postorder, order}
 use Rattle.table.specs.Table.{place, post_number, has_number, first_number, large, stray_parent, bad_rank, adrift}
 use Rattle.table.specs.Table.{all_long}

@@ -13,7 +13,7 @@ use Rattle.laws.specs.Refusals.{settle-accepted}
 use Rattle.laws.specs.SearchLaws.{get_d_tabulate}
 use Rattle.laws.specs.Tests.{by_lt}
 use Rattle.table.specs.Acceptance.{accepting}
-use Rattle.table.specs.declared.Counted.TheVariants.{Nodes, Refused}
+use Rattle.table.specs.Counted.{Nodes, Refused}
 use Rattle.table.specs.declared.Limits.{Limits}
 use Rattle.table.proofs.NumberingLaws.{numbering, number_start, first_child, leaf_number, first_is, in_subtree}
 use Rattle.table.proofs.Postorder.{child_at_lem}

@@ -7,8 +7,8 @@
 --   Spanned L .. r    == its contract
 use Rattle.std.specs.Prelude.{Bool, List, [], ◌∷◌, ◌≡◌, ℕ, length}
 use Rattle.laws.specs.Search.{tabulate, Outcome, settle}
-use Rattle.table.specs.declared.Counted.{Counted}
-use Rattle.table.specs.declared.Counted.TheVariants.{Nodes, Refused}
+use Rattle.table.specs.Counted.{Counted}
+use Rattle.table.specs.Counted.{Nodes, Refused}
 use Rattle.table.specs.declared.Limits.{Limits}
 use Rattle.table.specs.Table.{post_number, first_number, all_long, shape_fault, table_fault, Called}
 

@@ -9,8 +9,8 @@
 --   Short a                == the number of bytes that the writer answers fits 32 bits
 --   Near a                 == the place that a list of lengthens answers fits 63 bits
 use Rattle.std.specs.Prelude.{List, [], ◌∷◌, ℕ, ◌^◌, ◌<◌, Float, ℤ, pos}
-use Rattle.table.specs.declared.Counted.{Counted}
-use Rattle.table.specs.declared.Counted.TheVariants as counted
+use Rattle.table.specs.Counted.{Counted}
+use Rattle.table.specs.Counted as counted
 use Rattle.drawing.specs.declared.Framed.{Framed}
 use Rattle.drawing.specs.declared.Framed.TheVariants as framed
 use Rattle.arranging.specs.declared.Arranged.{Arranged}

@@ -8,7 +8,7 @@ use lib.ListN.{length, length-replicate}
 use Rattle.laws.specs.Refusals.{or_else_second}
 use Rattle.laws.specs.SearchLaws.{length-tabulate}
 use Rattle.table.specs.Acceptance.{shape_fits}
-use Rattle.table.specs.declared.Counted.{Counted}
+use Rattle.table.specs.Counted.{Counted}
 use Rattle.table.specs.declared.Limits.{Limits}
 use Rattle.table.specs.Table.{large, shape_fault, tree_fault, table_fault, printed}
 use Rattle.slopes.specs.declared.Rule.{Rule}

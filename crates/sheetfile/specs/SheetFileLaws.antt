@@ -15,8 +15,8 @@ use Rattle.laws.specs.Refusals.{refusal, some_not_none, or_else_first, or_else_s
 use Rattle.laws.specs.Refusals.{refuse_no, refuse-none}
 use Rattle.laws.specs.Search.{Refusal, refuse, ◌or_else◌}
 use Rattle.laws.specs.SearchLaws.{length-tabulate}
-use Rattle.table.specs.declared.Counted.{Counted}
-use Rattle.table.specs.declared.Counted.TheVariants.{Nodes, Refused}
+use Rattle.table.specs.Counted.{Counted}
+use Rattle.table.specs.Counted.{Nodes, Refused}
 use Rattle.table.specs.Table.{tree_fault, printed}
 use Rattle.treefile.specs.TreeFile.{word_at, words, stated_nodes, file_parents, file_ranks, open_fault, Lists, loaded}
 use Rattle.treefile.specs.TreeFile.{read_tree, Read}

@@ -9,6 +9,7 @@ use Rattle.std.proofs.Common.{inl, inr, subst, ◌∙◌, arith}
 use Rattle.std.proofs.Math.Option.{Option, none, some}
 use Rattle.std.proofs.Math.Path.{refl, sym, ap, ap₂, subst⁻¹}
 use borrow.Author.Tests.{le-ltb, le-leb}
+use Rattle.faults.specs.Numbers.{number}
 use Rattle.laws.specs.Refusals.{or_else_second, refuse_yes, refuse_no, settle-none, settle_some}
 use Rattle.laws.specs.Search.{Refusal, refuse, ◌or_else◌, Outcome}
 use Rattle.laws.specs.SearchLaws.{least_cong}
@@ -32,8 +33,8 @@ module _ {S L : Limits} (within : Narrower S L) (P R : List ℕ) (rule : Rule) (
     (few : length P ≤ S.nodes) where
   -- refusals 1 to 7, and layout: there are not too many nodes
   few_enough : (M : Limits) (rest : Option Refusal) → length P ≤ M.nodes
-      → refuse (ltb M.nodes (length P)) M.many 0 or_else rest ≡ rest
-  few_enough M rest h = or_else_second _ rest (refuse_no _ M.many 0 (le-ltb M.nodes (length P) h))
+      → refuse (ltb M.nodes (length P)) (number M.many) 0 or_else rest ≡ rest
+  few_enough M rest h = or_else_second _ rest (refuse_no _ (number M.many) 0 (le-ltb M.nodes (length P) h))
 
   table_same : (long : Bool) → table_fault S P R long work ≡ table_fault L P R long work
   unfolding table_fault shape_fault
@@ -91,16 +92,16 @@ module _ {S L : Limits} (within : Narrower S L) (P R : List ℕ) (rule : Rule) (
 
       -- the outcome at the limits M, by refusals 1 to 10 and 22
       abbrev outcome : Limits → Option Refusal → Outcome Framed Sheet
-      outcome M f = redrawn (f or_else refuse (beyond M.place (length P) on.drawing) M.far v) s on
+      outcome M f = redrawn (f or_else refuse (beyond M.place (length P) on.drawing) (number M.far) v) s on
 
       -- where nothing else is refused
       far : (M : Limits) → beyond M.place (length P) on.drawing ≡ true
-          → outcome M none ≡ record { answer = Refused M.far v; left = s }
-      far M e = settle_some Refused s (frame on.drawing) on _ (refuse_yes _ M.far v e)
+          → outcome M none ≡ record { answer = Refused (number M.far) v; left = s }
+      far M e = settle_some Refused s (frame on.drawing) on _ (refuse_yes _ (number M.far) v e)
 
       close : (M : Limits) → beyond M.place (length P) on.drawing ≡ false
           → outcome M none ≡ record { answer = frame on.drawing; left = on }
-      close M e = settle-none Refused s (frame on.drawing) on _ (refuse_no _ M.far v e)
+      close M e = settle-none Refused s (frame on.drawing) on _ (refuse_no _ (number M.far) v e)
 
       outcome_same : (f : Option Refusal) → Stays S L (length P) (outcome L f) → outcome S f ≡ outcome L f
       outcome_same (some r) stays = refl
@@ -119,7 +120,7 @@ module _ {S L : Limits} (within : Narrower S L) (P R : List ℕ) (rule : Rule) (
           ap (outcome S) (stretch_same v) ∙ outcome_same (stretch_fault L P R rule s work v) stays
 
       outcome_or_far : (f : Option Refusal)
-          → (outcome S f ≡ outcome L f) ⊎ (outcome S f ≡ record { answer = Refused S.far v; left = s })
+          → (outcome S f ≡ outcome L f) ⊎ (outcome S f ≡ record { answer = Refused (number S.far) v; left = s })
       outcome_or_far (some r) = inl refl
       outcome_or_far none =
           by_test (beyond S.place (length P) on.drawing) (λ e. inr (far S e))
@@ -130,11 +131,11 @@ module _ {S L : Limits} (within : Narrower S L) (P R : List ℕ) (rule : Rule) (
           inl (close S e ∙ sym (close L wide)))
 
       pub lengthen_same_or_far : (lengthen S P R rule s work v c ≡ lengthen L P R rule s work v c)
-          ⊎ (lengthen S P R rule s work v c ≡ record { answer = Refused S.far v; left = s })
+          ⊎ (lengthen S P R rule s work v c ≡ record { answer = Refused (number S.far) v; left = s })
       unfolding lengthen
       lengthen_same_or_far =
           subst⁻¹ (λ f. (outcome S f ≡ outcome L (stretch_fault L P R rule s work v))
-          ⊎ (outcome S f ≡ record { answer = Refused S.far v; left = s }))
+          ⊎ (outcome S f ≡ record { answer = Refused (number S.far) v; left = s }))
           (stretch_same v) (outcome_or_far (stretch_fault L P R rule s work v))
 
 ------------------------------------------------------------------------

@@ -8,6 +8,7 @@
 --                       and none was refused as beyond that of L
 --   Same S L ..      == layout, lengthen, shorten and hold answer and leave the same at S as at L
 use Rattle.std.specs.Prelude.{Bool, List, ◌≡◌, ℕ, ◌≤◌, ◌<◌, length, get_or}
+use Rattle.faults.specs.Numbers.{number}
 use Rattle.laws.specs.Search.{Outcome}
 use Rattle.table.specs.declared.Limits.{Limits}
 use Rattle.slopes.specs.declared.Rule.{Rule}
@@ -26,7 +27,7 @@ Near limit n s = (z : ℕ) → z < n → (get_or s.drawing.x z 0 ≤ limit) × (
 
 pub record Stays (S L : Limits) (n : ℕ) (o : Outcome Framed Sheet) : Type 0 where
   pub near : Near S.place n o.left
-  pub not_far : (v : ℕ) → ¬ (o.answer ≡ Refused L.far v)
+  pub not_far : (v : ℕ) → ¬ (o.answer ≡ Refused (number L.far) v)
 
 -- refusals are among the answers; `same` shows it of every table of at most S's nodes
 pub record Same (S L : Limits) (P R : List ℕ) (rule : Rule) (s : Sheet) (work : ℕ) : Type 0 where

@@ -17,6 +17,7 @@ use Rattle.std.proofs.Common.{ap, ap₂, subst, ◌∙◌}
 use native.Mathlib.Omega.{arith}
 use Rattle.std.proofs.Math.ListN.{length, get_or}
 use borrow.Author.Tests.{ltb-false, lt-ltb, le-ltb, lt-leb, leb-false, eqb-false, ne_eqb}
+use Rattle.faults.specs.Numbers.{number}
 use Rattle.laws.specs.Refusals.{or_else_second, or_else_none, refuse_no, refuse-none}
 use Rattle.laws.specs.Refusals.{settle-none}
 use Rattle.laws.specs.Search.{least, Refusal, refuse, ◌or_else◌}
@@ -118,7 +119,7 @@ module _ (L : Limits) (P R : List ℕ) (rule : Rule) (s : Sheet) (work v c : ℕ
   back_sheet = sheet_of back s.held
 
   abbrev too_far : Option Refusal
-  too_far = refuse (beyond L.place (length P) on) L.far v
+  too_far = refuse (beyond L.place (length P) on) (number L.far) v
 
   abbrev too_short : Option Refusal
   too_short = refuse (leb (get_or s.drawing.times v 0) c) 12 v
@@ -146,7 +147,7 @@ module _ (L : Limits) (P R : List ℕ) (rule : Rule) (s : Sheet) (work v c : ℕ
   lengthen-accepted e =
       let f = settled s on_sheet (frame on) (stretch_fault L P R rule s work v or_else too_far) e in
       let parts = or_else_none (stretch_fault L P R rule s work v) too_far f.0 in
-      (free L P R rule s work v parts.0, refuse-none _ L.far v parts.1, f.1)
+      (free L P R rule s work v parts.0, refuse-none _ (number L.far) v parts.1, f.1)
 
   -- such a call is accepted
   pub lengthen_made : Free L P R rule s work v → beyond L.place (length P) on ≡ false
@@ -155,7 +156,7 @@ module _ (L : Limits) (P R : List ℕ) (rule : Rule) (s : Sheet) (work v c : ℕ
   lengthen_made f near =
       let x = f.examined in
       settle-none Refused s (frame on) on_sheet _
-      (or_else_second _ _ (free_again x x.inspected.sound f.free) ∙ refuse_no _ L.far v near)
+      (or_else_second _ _ (free_again x x.inspected.sound f.free) ∙ refuse_no _ (number L.far) v near)
 
   pub shorten-accepted : {w h : ℕ} {t : Sheet}
       → shorten L P R rule s work v c ≡ record { answer = Frame w h; left = t }
@@ -185,7 +186,7 @@ module _ (L : Limits) (P R : List ℕ) (rule : Rule) (s : Sheet) (work v c : ℕ
             free = f.free;
             answer = refl;
             sound = record {
-              drawn = longer_drawn x (refuse-none _ L.far v parts.1);
+              drawn = longer_drawn x (refuse-none _ (number L.far) v parts.1);
               held = x.inspected.sound.held;
             };
             held = refl;
@@ -296,7 +297,7 @@ module _ (L : Limits) (P R : List ℕ) (rule : Rule) (s : Sheet) (work v : ℕ) 
       let drawn = x.inspected.sound.drawn in
       let same : on L P R rule s work v 0 ≡ s.drawing =
       stretch_one x.inside (longer_stretch drawn x.inside) (stretch_0 drawn) in (
-        refuse_no _ L.far v (no_beyond L.place (length P) (on L P R rule s work v 0)
+        refuse_no _ (number L.far) v (no_beyond L.place (length P) (on L P R rule s work v 0)
             (subst⁻¹ (λ u. (z : ℕ) → z < length P → (get_or u.x z 0 ≤ L.place) × (get_or u.y z 0 ≤ L.place)) same
             (λ z l. (drawn.x.within z l, drawn.y.within z l)))),
         same,

@@ -11,8 +11,8 @@ use Rattle.laws.specs.Refusals.{or_else_first, or_else_second, refuse_yes, refus
 use Rattle.laws.specs.Search.{Refusal, refuse, ◌or_else◌}
 use Rattle.table.specs.Acceptance.{validity, validity-accepted, validity_refused}
 use Rattle.table.specs.declared.Limits.{Limits}
-use Rattle.table.specs.declared.Validity.{Validity}
-use Rattle.table.specs.declared.Validity.TheVariants.{Accepted, Refused}
+use Rattle.table.specs.Validity.{Validity}
+use Rattle.table.specs.Validity.{Accepted, Refused}
 use Rattle.table.specs.Parts.{Tested, fault, no_fault, refused_later}
 use Rattle.slopes.specs.declared.Rule.{Rule}
 use Rattle.drawing.specs.Drawing.{Sheet, sheet_fault}

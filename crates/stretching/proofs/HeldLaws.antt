@@ -11,6 +11,7 @@ use Rattle.std.proofs.Math.Option.{Option, none, some}
 use Rattle.std.proofs.Math.Path.{sym, ap}
 use Rattle.std.proofs.Common.{subst, ◌∙◌, arith}
 use Rattle.std.proofs.Math.Dec.{eqb}
+use Rattle.faults.specs.Numbers.{number}
 use Rattle.laws.specs.Refusals.{refusal, or_else_first, or_else_second, refuse_yes, settle_some}
 use Rattle.laws.specs.Search.{Refusal, refuse, ◌or_else◌, Outcome}
 use Rattle.laws.specs.SearchLaws.{least_cong}
@@ -91,7 +92,7 @@ module _ (L : Limits) (P R : List ℕ) (rule : Rule) (s : Sheet) (work v c : ℕ
   unfolding lengthen
   lengthen_elsewhere =
       let new = longer P R rule s.drawing v c in
-      let own = refuse (beyond L.place (length P) new) L.far v in
+      let own = refuse (beyond L.place (length P) new) (number L.far) v in
       ap (λ f. redrawn (f or_else own) t (sheet_of new H)) same_fault
       ∙ settled_same (stretch_fault L P R rule s work v or_else own) new
 

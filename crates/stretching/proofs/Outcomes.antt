@@ -7,12 +7,13 @@ use Prim.Native.Nat.{ℕ, ◌+◌, ◌*◌, ◌^◌, ◌≤◌, ◌<◌}
 use native.Mathlib.Omega.{arith}
 use lib.ListN.{length, get_or, set}
 use borrow.Author.Tests.{le-leb, lt-leb}
+use Rattle.faults.specs.Numbers.{number}
 use Rattle.laws.specs.Refusals.{or_else_first, or_else_second, refuse_yes, refuse_no, settle-none, settle_some}
 use Rattle.laws.specs.Tests.{by_test, differ}
 use Rattle.table.specs.Acceptance.{validity, validity-accepted, validity_refused}
 use Rattle.table.specs.declared.Limits.{Limits}
-use Rattle.table.specs.declared.Validity.{Validity}
-use Rattle.table.specs.declared.Validity.TheVariants.{Accepted, Refused}
+use Rattle.table.specs.Validity.{Validity}
+use Rattle.table.specs.Validity.{Accepted, Refused}
 use Rattle.table.specs.Parts.{no_fault, fault}
 use Rattle.table.specs.Table.{under}
 use Rattle.slopes.specs.declared.Rule.{Rule}
@@ -150,11 +151,11 @@ module _ {L : Limits} {P R : List ℕ} (rule : Rule) {s : Sheet} {W : List ℕ} 
         (or_else_first _ _ (past_8 ∙ validity_refused _ k z (sym is ∙ e))))
 
     module _ (ok : r ≡ Accepted) {q : Bool} (far : q ≡ beyond L.place (length P) on) where
-      pub lengthened_beyond : q ≡ true → Lengthened s.drawing (Refused L.far v)
+      pub lengthened_beyond : q ≡ true → Lengthened s.drawing (Refused (number L.far) v)
       unfolding lengthen framing
       lengthened_beyond t =
           sym (settle_some framed.Refused s (frame on) (sheet_of on s.held) _
-          (or_else_second _ _ (unrefused ok) ∙ refuse_yes _ L.far v (sym far ∙ t)))
+          (or_else_second _ _ (unrefused ok) ∙ refuse_yes _ (number L.far) v (sym far ∙ t)))
 
       module _ (f : q ≡ false) where
         pub lengthened : {t : Drawing} → t ≡ on → Lengthened t Accepted

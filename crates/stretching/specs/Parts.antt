@@ -13,8 +13,8 @@ use Rattle.std.specs.Prelude.{Bool, true, false, List, ◌≡◌, ℕ, ◌+◌, 
 use Rattle.std.proofs.Math.Option.{Option}
 use Rattle.laws.specs.Search.{Refusal, refuse, ◌or_else◌, Outcome}
 use Rattle.table.specs.declared.Limits.{Limits}
-use Rattle.table.specs.declared.Validity.{Validity}
-use Rattle.table.specs.declared.Validity.TheVariants.{Accepted, Refused}
+use Rattle.table.specs.Validity.{Validity}
+use Rattle.table.specs.Validity.{Accepted, Refused}
 use Rattle.table.specs.Numbering.{NumberedTree}
 use Rattle.table.specs.Parts.{Tested}
 use Rattle.table.specs.Table.{under}

@@ -11,6 +11,7 @@
 --   lengthen, shorten L ..    == the calls: what they answer, and the sheet that they leave
 use Rattle.std.specs.Prelude.{Bool, cond, ◌||◌, List, ℕ, ◌+◌, ◌-◌, ◌*◌, ltb, leb, eqb, length, get_or, set}
 use Rattle.std.proofs.Math.Option.{Option}
+use Rattle.faults.specs.Numbers.{number}
 use Rattle.laws.specs.Search.{least, tabulate, Refusal, refuse, ◌or_else◌, Outcome}
 use Rattle.table.specs.declared.Limits.{Limits}
 use Rattle.table.specs.Table.{under}
@@ -52,7 +53,7 @@ stretch_fault L P R rule s work v = lot_fault L P R rule s work v or_else refuse
 unfoldable pub lengthen : Limits → List ℕ → List ℕ → Rule → Sheet → ℕ → ℕ → ℕ → Outcome Framed Sheet
 lengthen L P R rule s work v c =
     let new = stretched ◌+◌ P R rule s.drawing v c in
-    redrawn (stretch_fault L P R rule s work v or_else refuse (beyond L.place (length P) new) L.far v) s
+    redrawn (stretch_fault L P R rule s work v or_else refuse (beyond L.place (length P) new) (number L.far) v) s
     (sheet_of new s.held)
 
 unfoldable pub shorten : Limits → List ℕ → List ℕ → Rule → Sheet → ℕ → ℕ → ℕ → Outcome Framed Sheet

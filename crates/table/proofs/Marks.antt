@@ -1,6 +1,7 @@
 -- Refusal 7: every node is led to a marked one, and the way there is marked; the least node that is not is adrift.
 use mathlib.Core.Bool.{true, false}
 use mathlib.Core.List.{List}
+use mathlib.Core.Option.{none}
 use mathlib.Core.Path.{◌≡◌, sym, ap, subst, subst⁻¹, ◌∙◌}
 use Prim.Native.Nat.{ℕ, ◌+◌, ◌-◌, ◌*◌, ◌≤◌, ◌<◌}
 use native.Mathlib.Numerals.{add-one}
@@ -9,8 +10,9 @@ use lib.ListN.{length, get_or, set}
 use lib.Seq.{get_or-set_same, get_or-set_other}
 use borrow.Author.Count.{below_more, below_none}
 use borrow.Author.Tests.{ltb-true, lt-ltb, le-ltb}
+use Rattle.laws.specs.Refusals.{refusal, refuse_least_yes, refuse_least_all}
 use Rattle.laws.specs.Regions.{Only, only_refl, only_set, only_trans}
-use Rattle.laws.specs.Search.{least}
+use Rattle.laws.specs.Search.{least, refuse_least}
 use Rattle.laws.specs.SearchLaws.{least_is, least_below, least_passes}
 use Rattle.laws.specs.Tests.{by_eq, by_lt, differ}
 use Rattle.table.specs.Ancestry.{climb_plus, climb-inside, climb-zero, climb-suc, climb_onward, leads_in_n}
@@ -178,9 +180,8 @@ marking_start {P} {W} w d z = record {
     right : (n : ℕ) → n + 0 ≡ n
     right n = omega arith
 
+-- the nodes below v lead to node 0
 pub record Drifting (P W X : List ℕ) (v : ℕ) : Type 0 where
-  pub from : 1 ≤ v
-  pub upto : v ≤ length P
   pub scratch : Scratch P X
   pub marking : Marking P X
   pub fine : (k : ℕ) → k < v → adrift P k ≡ false
@@ -189,29 +190,28 @@ pub record Drifting (P W X : List ℕ) (v : ℕ) : Type 0 where
 pub drifting_start : {P W : List ℕ} → Scratch P W → Started P W → Zeroed (length P + 1) (2 * length P) W
     → Drifting P W W 1
 drifting_start {P} {W} w d z = record {
-  from = omega arith;
-  upto = w.nodes.some;
   scratch = w;
   marking = marking_start w d z;
   fine = below_more (λ (k : ℕ). adrift P k ≡ false) 0 (below_none (λ (k : ℕ). adrift P k ≡ false)) (adrift_root P);
   kept = only_refl _ _ W;
 }
 
-module _ {P W X : List ℕ} {v k : ℕ} (i : Drifting P W X v) (l : v < length P)
+module _ {P W X : List ℕ} {v k : ℕ} (i : Drifting P W X v) (from : 1 ≤ v) (l : v < length P)
     (e : k ≡ least (λ j. marked P X (climb P j v)) (length P + 1)) where
-  pub drifting_found : length P < k → v ≡ least (adrift P) (length P)
+  pub drifting_found : length P < k → refuse_least 7 (length P) (adrift P) ≡ refusal 7 v
   drifting_found h =
-      least_is (adrift P) (length P) v i.upto i.fine
-      (λ _. adrift_yes P v i.from (λ home.
+      refuse_least_yes 7 (length P) (adrift P) v
+      (least_is (adrift P) (length P) v (omega arith) i.fine
+      (λ _. adrift_yes P v from (λ home.
       differ (i.marking.root (omega arith))
       (subst (λ (z : ℕ). marked P X z ≡ false) home
-      (least_below (λ j. marked P X (climb P j v)) (length P + 1) (length P) (omega arith)))))
+      (least_below (λ j. marked P X (climb P j v)) (length P + 1) (length P) (omega arith)))))) l
 
   pub drifting_reaches : k ≤ length P → Reaching P X v k
   drifting_reaches h = record {
     scratch = i.scratch;
     marking = i.marking;
-    above = i.from;
+    above = from;
     inside = l;
     steps = h;
     here = subst⁻¹ (λ (j : ℕ). marked P X (climb P j v) ≡ true) e
@@ -224,8 +224,6 @@ module _ {P W X : List ℕ} {v k : ℕ} (i : Drifting P W X v) (l : v < length P
   drifting_step {Y} m =
       let home = m.0.0.leads v l m.0.1 in
       record {
-        from = omega arith;
-        upto = omega arith;
         scratch = scratch_kept i.scratch m.1.long;
         marking = m.0.0;
         fine = below_more (λ (k : ℕ). adrift P k ≡ false) v i.fine
@@ -235,8 +233,5 @@ module _ {P W X : List ℕ} {v k : ℕ} (i : Drifting P W X v) (l : v < length P
       }
 
 pub drifting_end : {P W X : List ℕ} {v : ℕ} → Drifting P W X v → length P ≤ v
-    → (length P ≡ least (adrift P) (length P)) × Only (length P + 1) (2 * length P) W X
-drifting_end {P} i h = (
-  least_is (adrift P) (length P) (length P) (omega arith) (λ k l. i.fine k (omega arith)) (λ l. absurd (omega arith)),
-  i.kept,
-)
+    → refuse_least 7 (length P) (adrift P) ≡ none
+drifting_end {P} i h = refuse_least_all 7 (length P) (adrift P) (λ k l. i.fine k (omega arith))

@@ -1,6 +1,7 @@
 -- Refusal 6: how many nodes stand in each slot, and the least node that shares its slot or has none.
 use mathlib.Core.Bool.{true, false, ◌&&◌}
 use mathlib.Core.List.{List}
+use mathlib.Core.Option.{none}
 use mathlib.Core.Path.{◌≡◌, refl, sym, ap, ◌∙◌}
 use Prim.Native.Nat.{ℕ, ◌+◌, ◌-◌, ◌*◌, ◌≤◌, ◌<◌}
 use native.Mathlib.Omega.{arith}
@@ -8,8 +9,9 @@ use lib.Dec.{ltb, eqb}
 use lib.ListN.{length, get_or, set}
 use borrow.Author.Tests.{ltb-true, eqb-true, lt-ltb, eq-eqb}
 use borrow.Author.Count.{below_more, below_none}
+use Rattle.laws.specs.Refusals.{refusal, refuse_least_yes, refuse_least_all}
 use Rattle.laws.specs.Regions.{Only, only_store}
-use Rattle.laws.specs.Search.{bit, count, least}
+use Rattle.laws.specs.Search.{bit, count, refuse_least}
 use Rattle.laws.specs.SearchLaws.{count-zero, count_more, count_le, count_cong, least_is}
 use Rattle.laws.specs.Sums.{sum, sum_more}
 use Rattle.laws.specs.Tests.{both, both_is, same_test, false_of}
@@ -183,38 +185,34 @@ seating_end {P} {R} {X} {v} i e = record {
 ------------------------------------------------------------------------
 -- The least node with refusal 6
 
+-- the nodes below v pass
 pub record Ranking (P R : List ℕ) (v : ℕ) : Type 0 where
-  pub from : 1 ≤ v
-  pub upto : v ≤ length P
   pub fine : (k : ℕ) → k < v → bad_rank P R k ≡ false
 
-pub ranking_start : {P X : List ℕ} (R : List ℕ) → Scratch P X → Ranking P R 1
-ranking_start {P} R w = record {
-  from = omega arith;
-  upto = w.nodes.some;
+pub ranking_start : {P : List ℕ} (R : List ℕ) → Ranking P R 1
+ranking_start {P} R = record {
   fine = below_more (λ (k : ℕ). bad_rank P R k ≡ false) 0 (below_none (λ (k : ℕ). bad_rank P R k ≡ false)) (bad_root P R);
 }
 
 module _ {P R X : List ℕ} {v p r s e : ℕ} (w : Scratch P X) (d : Started P X) (o : Occupied P R X) (i : Ranking P R v)
-    (l : v < length P) (t : Turn P R X v p r s e) where
-  pub ranking_high : e ≤ s → v ≡ least (bad_rank P R) (length P)
-  ranking_high h =
-      least_is (bad_rank P R) (length P) v i.upto i.fine (λ _. bad_high P R v i.from (rank_high w d l t h))
+    (from : 1 ≤ v) (l : v < length P) (t : Turn P R X v p r s e) where
+  refused_6 : bad_rank P R v ≡ true → refuse_least 6 (length P) (bad_rank P R) ≡ refusal 6 v
+  refused_6 bad =
+      refuse_least_yes 6 (length P) (bad_rank P R) v (least_is (bad_rank P R) (length P) v (omega arith) i.fine (λ _. bad)) l
 
-  pub ranking_shared : {k : ℕ} → s < e → k ≡ get_or X (length P + 1 + s) 0 → 1 < k → v ≡ least (bad_rank P R) (length P)
-  ranking_shared h ek more =
-      least_is (bad_rank P R) (length P) v i.upto i.fine
-      (λ _. bad_shared P R v i.from (omega (arith, seat_shared w d l t o i.from h)))
+  pub ranking_high : e ≤ s → refuse_least 6 (length P) (bad_rank P R) ≡ refusal 6 v
+  ranking_high h = refused_6 (bad_high P R v from (rank_high w d l t h))
+
+  pub ranking_shared : {k : ℕ} → s < e → k ≡ get_or X (length P + 1 + s) 0 → 1 < k
+      → refuse_least 6 (length P) (bad_rank P R) ≡ refusal 6 v
+  ranking_shared h ek more = refused_6 (bad_shared P R v from (omega (arith, seat_shared w d l t o from h)))
 
   pub ranking_step : {k : ℕ} → s < e → k ≡ get_or X (length P + 1 + s) 0 → k ≤ 1 → Ranking P R (v + 1)
   ranking_step h ek few = record {
-    from = omega arith;
-    upto = omega arith;
     fine = below_more (λ (k : ℕ). bad_rank P R k ≡ false) v i.fine
-        (bad_no P R v (rank_low w d l t h) (omega (arith, seat_shared w d l t o i.from h)));
+        (bad_no P R v (rank_low w d l t h) (omega (arith, seat_shared w d l t o from h)));
   }
 
-pub ranking_end : {P R : List ℕ} {v : ℕ} → Ranking P R v → length P ≤ v → length P ≡ least (bad_rank P R) (length P)
-ranking_end {P} {R} i h =
-    least_is (bad_rank P R) (length P) (length P) (omega arith) (λ k l. i.fine k (omega arith))
-    (λ l. absurd (omega arith))
+pub ranking_end : {P R : List ℕ} {v : ℕ} → Ranking P R v → length P ≤ v
+    → refuse_least 6 (length P) (bad_rank P R) ≡ none
+ranking_end {P} {R} i h = refuse_least_all 6 (length P) (bad_rank P R) (λ k l. i.fine k (omega arith))

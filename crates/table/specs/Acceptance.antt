@@ -14,6 +14,7 @@ use Rattle.std.specs.Prelude.{eqb, length}
 use Rattle.std.proofs.Common.{inl, inr, sym, ap, ap₂, subst, ◌∙◌, arith, eqb-true, ltb-false, le-ltb, eq-eqb, ne_eqb}
 use Rattle.std.proofs.Math.Option.{Option, none, some}
 use Rattle.std.proofs.lemmas.Bool.{eqb-false, not-false}
+use Rattle.faults.specs.Numbers.{number}
 use Rattle.laws.specs.Refusals.{refusal, some_not_none, or_else_second, or_else_none, refuse_no, refuse-none}
 use Rattle.laws.specs.Refusals.{or_else_some, refuse_number, refuse_some, refuse_least_all, refuse_least-none}
 use Rattle.laws.specs.Refusals.{refuse_least_some}
@@ -23,8 +24,8 @@ use Rattle.laws.specs.Tests.{by_eq, by_lt, differ, both, both_is, trichotomy}
 use Rattle.table.specs.Ancestry.{climb_root, leads_in_n, leads_steps}
 use Rattle.table.specs.Children.{Nodes, Child, child_at_test, one_child_a_rank, child_at_is}
 use Rattle.table.specs.declared.Limits.{Limits}
-use Rattle.table.specs.declared.Validity.{Validity}
-use Rattle.table.specs.declared.Validity.TheVariants.{Accepted, Refused}
+use Rattle.table.specs.Validity.{Validity}
+use Rattle.table.specs.Validity.{Accepted, Refused}
 use Rattle.table.specs.Table.{parent, rank, climb, leads, children, child_at, stray_parent, bad_rank, adrift}
 use Rattle.table.specs.Table.{all_long, shape_fault, tree_fault, table_fault}
 use Rattle.table.specs.TableLaws.{Tree, tree_ranked, stray_yes, stray_no, bad_root, bad_high, bad_shared, bad_no}
@@ -54,7 +55,7 @@ shaped L P R long work e =
     let d = both _ _ c.1 in
     record {
       some = some_node (length P) (eqb-false _ _ (refuse-none _ 1 0 a.0));
-      few = ltb-false _ _ (refuse-none _ L.many 0 b.0);
+      few = ltb-false _ _ (refuse-none _ (number L.many) 0 b.0);
       ranks = eqb-true _ _ c.0;
       others = d.0;
       work_long = eqb-true _ _ d.1;
@@ -68,7 +69,7 @@ pub shape_fits : {L : Limits} {P R : List ℕ} {long : Bool} {work : ℕ} → Sh
 unfolding shape_fault
 shape_fits {L} {P} {R} {long} {work} s =
     or_else_second _ _ (refuse_no _ 1 0 (ne_eqb (length P) 0 (λ e. omega arith)))
-    ∙ or_else_second _ _ (refuse_no _ L.many 0 (le-ltb L.nodes (length P) s.few))
+    ∙ or_else_second _ _ (refuse_no _ (number L.many) 0 (le-ltb L.nodes (length P) s.few))
     ∙ refuse_no _ 3 0 (ap not (both_is (eq-eqb (length R) (length P) s.ranks)
     (both_is s.others (eq-eqb work (4 * length P) s.work_long))))
 
@@ -152,12 +153,12 @@ unfolding table_fault
 not_spared L P R long work e g = some_not_none (sym g ∙ (or_else_none _ (tree_fault P R) e).0)
 
 pub table_number : (L : Limits) (P R : List ℕ) (long : Bool) (work : ℕ) {f : Refusal}
-    → table_fault L P R long work ≡ some f → (f.number ≤ 7) ⊎ (f.number ≡ L.many)
+    → table_fault L P R long work ≡ some f → (f.number ≤ 7) ⊎ (f.number ≡ (number L.many))
 unfolding table_fault shape_fault tree_fault
 table_number L P R long work e =
     or_else_some (shape_fault L P R long work) (tree_fault P R) e
     (λ a. refuse_some (eqb (length P) 0) 1 0 _ a (λ q. inl (omega arith))
-    (λ b. refuse_some (ltb L.nodes (length P)) L.many 0 _ b inr
+    (λ b. refuse_some (ltb L.nodes (length P)) (number L.many) 0 _ b inr
     (λ c.
     let lengths = eqb (length R) (length P) && (long && eqb work (4 * length P)) in
     inl (omega (arith, refuse_number (not lengths) 3 0 c)))))

@@ -1,3 +1,5 @@
+pub mod Validity
+pub mod Counted
 pub mod Table
 pub mod Paths
 pub mod PathLaws

@@ -25,8 +25,8 @@ use Rattle.laws.specs.Search.{count, Refusal}
 use Rattle.laws.specs.Sums.{sum}
 use Rattle.table.specs.Children.{Nodes, slot}
 use Rattle.table.specs.declared.Limits.{Limits}
-use Rattle.table.specs.declared.Validity.{Validity}
-use Rattle.table.specs.declared.Validity.TheVariants.{Accepted, Refused}
+use Rattle.table.specs.Validity.{Validity}
+use Rattle.table.specs.Validity.{Accepted, Refused}
 use Rattle.table.specs.Table.{parent, rank, climb, children, is_child_at, order, post_number, first_number}
 use Rattle.table.specs.Table.{tree_fault, shape_fault, table_fault}
 use Rattle.table.specs.Acceptance.{accepting, validity, validity-accepted, validity_refused}

@@ -26,6 +26,9 @@
 use Rattle.std.specs.Prelude.{Bool, true, cond, not, ◌&&◌, ◌||◌, List, [], ◌∷◌, ◌++◌, ◌≡◌, ℕ, zero, suc, ◌*◌, ltb, leb}
 use Rattle.std.specs.Prelude.{eqb, length, get_or}
 use Rattle.std.proofs.Math.Option.{Option, some}
+use Rattle.faults.specs.declared.Fault.TheVariants.{TooManyLots, WouldPassMaxPlace, TooManyToCheck, PassesMaxPlace}
+use Rattle.faults.specs.declared.Fault.TheVariants.{TooManyForSmall, WouldPassSmallPlace}
+use Rattle.faults.specs.Numbers.{number}
 use Rattle.laws.specs.Search.{count, least, Refusal, refuse, refuse_least, ◌or_else◌}
 use Rattle.table.specs.declared.Limits.{Limits}
 
@@ -103,16 +106,16 @@ abbrev pub farthest : ℕ
 farthest = 2147483647
 
 abbrev pub large : Limits
-large = record { nodes = 65536; many = 2; place = farthest; far = 11 }
+large = record { nodes = 65536; many = TooManyLots; place = farthest; far = WouldPassMaxPlace }
 
 abbrev pub small : Limits
-small = record { nodes = 1024; many = 20; place = 1048575; far = 21 }
+small = record { nodes = 1024; many = TooManyForSmall; place = 1048575; far = WouldPassSmallPlace }
 
 abbrev pub checked : Limits
-checked = record { nodes = 4096; many = 14; place = farthest; far = 15 }
+checked = record { nodes = 4096; many = TooManyToCheck; place = farthest; far = PassesMaxPlace }
 
 abbrev pub printed : Limits
-printed = record { nodes = 4096; many = 14; place = farthest; far = 11 }
+printed = record { nodes = 4096; many = TooManyToCheck; place = farthest; far = WouldPassMaxPlace }
 
 ------------------------------------------------------------------------
 -- Refusals 1 to 7
@@ -141,7 +144,7 @@ all_long n (l ∷ ls) = eqb (length l) n && all_long n ls
 unfoldable pub shape_fault : Limits → List ℕ → List ℕ → Bool → ℕ → Option Refusal
 shape_fault L P R long work =
     refuse (eqb (length P) 0) 1 0
-    or_else refuse (ltb L.nodes (length P)) L.many 0
+    or_else refuse (ltb L.nodes (length P)) (number L.many) 0
     or_else refuse (not (eqb (length R) (length P) && (long && eqb work (4 * length P)))) 3 0
 
 unfoldable pub tree_fault : List ℕ → List ℕ → Option Refusal

@@ -7,8 +7,9 @@
 
 ghost use Rattle.std.specs.Prelude.{true, [], ◌∷◌, ◌≡◌, ◌+◌, ◌*◌, ◌^◌, ◌≤◌, ◌<◌, length, get_or, set};
 ghost use Rattle.laws.specs.Regions.{Only};
-ghost use Rattle.laws.specs.Search.{least};
+ghost use Rattle.laws.specs.Search.{least, refuse_least};
 ghost use Rattle.table.specs.Acceptance.{validity};
+ghost use Rattle.table.specs.Validity.{valid};
 ghost use Rattle.table.specs.Table.{climb, post_number, stray_parent, bad_rank, adrift, all_long, shape_fault};
 ghost use Rattle.table.specs.Table.{large, small, checked, printed};
 ghost use Rattle.table.specs.Parts.{Scratch, Zeroed, Tallied, Started, Seating, Occupied, marked, Marking};
@@ -16,28 +17,15 @@ ghost use Rattle.table.specs.Parts.{Reaching, Lengths, Rooted, Structured, Valid
 ghost use Rattle.table.specs.Parts.{Leftmost, Next, Visited, Copied, Prepared};
 ghost use Rattle.table.specs.Numbering.{Numbered, NumberedTree, Numbers};
 
-// What a call accepts: the most nodes and the largest place. `many` and `far` are refusal numbers: of more nodes, and
-// of a place beyond.
+use faults::{Fault, Refusal};
+
+// What a call accepts: the most nodes and the largest place, and why it refuses more nodes and a place beyond.
 #[derive(Clone, Copy)]
 pub struct Limits {
     pub nodes: u32,
-    pub many: u32,
+    pub many: Fault,
     pub place: u32,
-    pub far: u32,
-}
-
-// Whether a table is one: accepted, or a refusal's number and node.
-#[derive(Clone, Copy)]
-pub enum Validity {
-    Accepted,
-    Refused(u32, u32),
-}
-
-// What a call that fills lists answers: the number of nodes, or a refusal's number and node.
-#[derive(Clone, Copy)]
-pub enum Counted {
-    Nodes(u32),
-    Refused(u32, u32),
+    pub far: Fault,
 }
 
 const FARTHEST: u32 = 2147483647;
@@ -48,9 +36,9 @@ pub fn large_limits() -> Limits
 {
     Limits {
         nodes: 65536,
-        many: 2,
+        many: Fault::TooManyLots,
         place: FARTHEST,
-        far: 11,
+        far: Fault::WouldPassMaxPlace,
     }
 }
 
@@ -60,9 +48,9 @@ pub fn small_limits() -> Limits
 {
     Limits {
         nodes: 1024,
-        many: 20,
+        many: Fault::TooManyForSmall,
         place: 1048575,
-        far: 21,
+        far: Fault::WouldPassSmallPlace,
     }
 }
 
@@ -72,9 +60,9 @@ pub fn checked_limits() -> Limits
 {
     Limits {
         nodes: 4096,
-        many: 14,
+        many: Fault::TooManyToCheck,
         place: FARTHEST,
-        far: 15,
+        far: Fault::PassesMaxPlace,
     }
 }
 
@@ -87,7 +75,7 @@ pub fn printed_limits() -> Limits
         nodes: limits.nodes,
         many: limits.many,
         place: limits.place,
-        far: 11,
+        far: Fault::WouldPassMaxPlace,
     }
 }
 
@@ -132,20 +120,18 @@ pub fn both_long(n: usize, a: &[u32], b: &[u32]) -> bool
     b.len() == n
 }
 
-// The smallest node with refusal 5, or n.
-fn stray_parent(parent: &[u32]) -> usize
-    requires { 0 < length parent.now }
-    ensures { result ≡ least (stray_parent parent.now) (length parent.now) }
+// Refusal 5, of the smallest node to which it applies.
+fn test_parents(parent: &[u32]) -> Result<(), Refusal>
+    requires { (0 < length parent.now) × (length parent.now < 2 ^ 32) }
+    ensures { valid result ≡ validity (refuse_least 5 (length parent.now) (stray_parent parent.now)) }
 {
     let n = parent.len();
-    let mut v = 1;
-    while v < n {
+    for v in 1..n {
         if n <= get(parent, v) {
-            return v;
+            return Err(Fault::NoSuchParent.at(v));
         }
-        v += 1;
     }
-    n
+    Ok(())
 }
 
 // Zeroes the work list from a up to e.
@@ -241,27 +227,25 @@ fn occupy(parent: &[u32], rank: &[u32], work: &mut [u32])
     }
 }
 
-// The smallest node with refusal 6, or n.
-fn bad_rank(parent: &[u32], rank: &[u32], work: &[u32]) -> usize
+// Refusal 6, of the smallest node to which it applies.
+fn test_ranks(parent: &[u32], rank: &[u32], work: &[u32]) -> Result<(), Refusal>
     requires scratch { Scratch parent.now work.now × (length rank.now ≡ length parent.now) }
     requires started { Started parent.now work.now × Occupied parent.now rank.now work.now }
-    ensures { result ≡ least (bad_rank parent.now rank.now) (length parent.now) }
+    ensures { valid result ≡ validity (refuse_least 6 (length parent.now) (bad_rank parent.now rank.now)) }
 {
     let n = parent.len();
-    let mut v = 1;
-    while v < n {
+    for v in 1..n {
         let p = get(parent, v);
         let r = get(rank, v);
         let s = get(work, p) + r;
         if get(work, p + 1) <= s {
-            return v;
+            return Err(Fault::WrongRank.at(v));
         }
         if 1 < get(work, n + 1 + s) {
-            return v;
+            return Err(Fault::WrongRank.at(v));
         }
-        v += 1;
     }
-    n
+    Ok(())
 }
 
 // How many steps lead from v up to a marked node: more than n where n steps do not.
@@ -301,49 +285,37 @@ fn mark(parent: &[u32], work: &mut [u32], v: usize, k: usize)
     }
 }
 
-// The smallest node with refusal 7, or n.
-fn drifting(parent: &[u32], work: &mut [u32]) -> usize
+// Refusal 7, of the smallest node to which it applies.
+fn test_paths(parent: &[u32], work: &mut [u32]) -> Result<(), Refusal>
     requires { Scratch parent.now work.old × Started parent.now work.old
         × Zeroed (length parent.now + 1) (2 * length parent.now) work.old }
-    ensures { (result ≡ least (adrift parent.now) (length parent.now))
+    ensures { (valid result ≡ validity (refuse_least 7 (length parent.now) (adrift parent.now)))
         × Only (length parent.now + 1) (2 * length parent.now) work.old
         work.new }
 {
     let n = parent.len();
-    let mut v = 1;
-    while v < n {
+    for v in 1..n {
         let k = steps(parent, work, v);
         if n < k {
-            return v;
+            return Err(Fault::Loop.at(v));
         }
         mark(parent, work, v, k);
-        v += 1;
     }
-    n
+    Ok(())
 }
 
 // Refusals 5 to 7.
-fn structure(parent: &[u32], rank: &[u32], work: &mut [u32]) -> Validity
+fn structure(parent: &[u32], rank: &[u32], work: &mut [u32]) -> Result<(), Refusal>
     requires { Rooted parent.now rank.now work.old }
-    ensures { Structured parent.now rank.now work.old work.new result }
+    ensures { Structured parent.now rank.now work.old work.new (valid result) }
 {
     let n = parent.len();
-    let v = stray_parent(parent);
-    if v < n {
-        return Validity::Refused(5, v as u32);
-    }
+    test_parents(parent)?;
     starts(parent, work);
     occupy(parent, rank, work);
-    let v = bad_rank(parent, rank, work);
-    if v < n {
-        return Validity::Refused(6, v as u32);
-    }
+    test_ranks(parent, rank, work)?;
     clear(work, n + 1, 2 * n);
-    let v = drifting(parent, work);
-    if v < n {
-        return Validity::Refused(7, v as u32);
-    }
-    Validity::Accepted
+    test_paths(parent, work)
 }
 
 // Refusals 1 to 3 at the limits, where `long` says that the lists lent besides are as long as the parent list.
@@ -353,40 +325,40 @@ pub fn test_lengths(
     rank: &[u32],
     long: bool,
     work: &[u32],
-) -> Validity
-    ensures { result ≡ validity (shape_fault limits parent.now rank.now long
+) -> Result<(), Refusal>
+    ensures { valid result ≡ validity (shape_fault limits parent.now rank.now long
         (length work.now)) }
 {
     let n = parent.len();
     let most = limits.nodes as usize;
     if n == 0 {
-        return Validity::Refused(1, 0);
+        return Err(Fault::NoLots.at(0));
     }
     if most < n {
-        return Validity::Refused(limits.many, 0);
+        return Err(limits.many.at(0));
     }
     if rank.len() != n {
-        return Validity::Refused(3, 0);
+        return Err(Fault::WrongLength.at(0));
     }
     if !long {
-        return Validity::Refused(3, 0);
+        return Err(Fault::WrongLength.at(0));
     }
     if work.len() != 4 * n {
-        return Validity::Refused(3, 0);
+        return Err(Fault::WrongLength.at(0));
     }
-    Validity::Accepted
+    Ok(())
 }
 
 // Refusals 4 to 7. Only the first 2n numbers of the work list change.
-pub fn test_tree(parent: &[u32], rank: &[u32], work: &mut [u32]) -> Validity
+pub fn test_tree(parent: &[u32], rank: &[u32], work: &mut [u32]) -> Result<(), Refusal>
     requires { Lengths parent.now rank.now work.old }
-    ensures { Structured parent.now rank.now work.old work.new result }
+    ensures { Structured parent.now rank.now work.old work.new (valid result) }
 {
     if get(parent, 0) != 0 {
-        return Validity::Refused(4, 0);
+        return Err(Fault::WrongRoot.at(0));
     }
     if get(rank, 0) != 0 {
-        return Validity::Refused(4, 0);
+        return Err(Fault::WrongRoot.at(0));
     }
     structure(parent, rank, work)
 }
@@ -398,14 +370,12 @@ pub fn validate(
     rank: &[u32],
     long: bool,
     work: &mut [u32],
-) -> Validity
+) -> Result<(), Refusal>
     ensures { Validated limits parent.now rank.now long work.old
-        work.new result }
+        work.new (valid result) }
 {
-    match test_lengths(limits, parent, rank, long, work) {
-        Validity::Refused(k, v) => Validity::Refused(k, v),
-        Validity::Accepted => test_tree(parent, rank, work),
-    }
+    test_lengths(limits, parent, rank, long, work)?;
+    test_tree(parent, rank, work)
 }
 
 // Puts each node into its slot.
@@ -521,17 +491,13 @@ pub fn prepare(
     rank: &[u32],
     long: bool,
     work: &mut [u32],
-) -> Validity
+) -> Result<(), Refusal>
     ensures { Prepared limits parent.now rank.now long work.old
-        work.new result }
+        work.new (valid result) }
 {
-    match validate(limits, parent, rank, long, work) {
-        Validity::Refused(k, v) => Validity::Refused(k, v),
-        Validity::Accepted => {
-            number(parent, rank, work);
-            Validity::Accepted
-        }
-    }
+    validate(limits, parent, rank, long, work)?;
+    number(parent, rank, work);
+    Ok(())
 }
 
 // The node with number j, other than the root, in a numbered table.

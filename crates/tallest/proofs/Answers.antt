@@ -6,6 +6,7 @@ use Prim.Native.Nat.{ℕ, ◌-◌, ◌*◌, ◌^◌, ◌≤◌, ◌<◌}
 use native.Mathlib.Omega.{arith}
 use lib.ListN.{length}
 use borrow.Author.Tests.{not-false, eq-eqb, ne_eqb, lt-ltb, le-ltb}
+use Rattle.faults.specs.Numbers.{number}
 use Rattle.laws.specs.Refusals.{refusal, or_else_first, or_else_second, refuse_yes, refuse_no, settle_some}
 use Rattle.laws.specs.Search.{Outcome}
 use Rattle.table.specs.Acceptance.{two_long}
@@ -32,11 +33,11 @@ module _ (n : ℕ) (s : Table) {L : Limits} (is : L ≡ large) where
   unfolding lent_fault
   no_nodes e = refused (or_else_first _ _ (refuse_yes _ 1 0 (eq-eqb n 0 e)))
 
-  pub too_many : (n ≡ 0 → ⊥) → L.nodes < n → record { answer = Refused L.many 0; left = s } ≡ tallest large n s
+  pub too_many : (n ≡ 0 → ⊥) → L.nodes < n → record { answer = Refused (number L.many) 0; left = s } ≡ tallest large n s
   unfolding lent_fault
   too_many some h =
       refused (or_else_second _ _ (refuse_no _ 1 0 (ne_eqb n 0 some))
-      ∙ or_else_first _ _ (refuse_yes _ L.many 0 (lt-ltb L.nodes n h)))
+      ∙ or_else_first _ _ (refuse_yes _ (number L.many) 0 (lt-ltb L.nodes n h)))
 
 -- n is within the limits, and `long` tells whether the lists are n long
 pub record Within (L : Limits) (n : ℕ) (s : Table) (long : Bool) : Type 0 where
@@ -54,7 +55,7 @@ module _ {L : Limits} {n : ℕ} {s : Table} {long : Bool} (c : Within L n s long
   unfolding lent_fault
   not_long e =
       refused n s c.is_large (or_else_second _ _ (refuse_no _ 1 0 (ne_eqb n 0 c.some))
-      ∙ or_else_second _ _ (refuse_no _ L.many 0 (le-ltb L.nodes n c.few))
+      ∙ or_else_second _ _ (refuse_no _ (number L.many) 0 (le-ltb L.nodes n c.few))
       ∙ refuse_yes _ 3 0 (ap not (sym c.told) ∙ e))
 
   above : 0 < n

@@ -8,6 +8,7 @@
 use Rattle.std.specs.Prelude.{true, not, List, [], ◌∷◌, ◌↔◌, ◌≡◌, ℕ, ◌-◌, ◌*◌, ◌≤◌, ◌<◌, length}
 use Rattle.std.proofs.Common.{sym, ap, ap₂, subst, ◌∙◌, arith, ltb-false, le-ltb, ne_eqb}
 use Rattle.std.proofs.lemmas.Bool.{eqb-false}
+use Rattle.faults.specs.Numbers.{number}
 use Rattle.laws.specs.Refusals.{or_else_second, or_else_none, refuse_no, refuse-none, settle-none, settle-accepted}
 use Rattle.laws.specs.Search.{Outcome}
 use Rattle.table.specs.Acceptance.{shape_fits, tree_fits, accepting}
@@ -36,7 +37,7 @@ unfolding tallest lent_fault
 tallest_answers L n s some few long =
     settle-none Refused _ (steep_frame (chain_of n)) (chain_of n) (lent_fault L n s)
     (or_else_second _ _ (refuse_no _ 1 0 (ne_eqb n 0 (λ e. omega arith)))
-    ∙ or_else_second _ _ (refuse_no _ L.many 0 (le-ltb L.nodes n few))
+    ∙ or_else_second _ _ (refuse_no _ (number L.many) 0 (le-ltb L.nodes n few))
     ∙ refuse_no _ 3 0 (ap not long))
     ∙ ap (λ (a : Framed). record { answer = a; left = chain_of n }) (chain_of-frame n some)
 
@@ -59,7 +60,7 @@ given L n s {w} {h} e =
     let is : Frame n (tallest_height n) ≡ Frame w h = sym (chain_of-frame n some) ∙ accepted.1 in
     record {
       some = some;
-      few = ltb-false _ _ (refuse-none _ L.many 0 second.0);
+      few = ltb-false _ _ (refuse-none _ (number L.many) 0 second.0);
       table = accepted.2;
       width = cc;
       height = cc;

@@ -11,6 +11,7 @@
 use Rattle.std.specs.Prelude.{not, List, [], ◌∷◌, ◌≡◌, ℕ, ◌-◌, ◌≤◌, ◌<◌, ltb, eqb, length}
 use Rattle.std.proofs.Math.Option.{Option}
 use denote.Triple.Both.{Both}
+use Rattle.faults.specs.Numbers.{number}
 use Rattle.laws.specs.Search.{tabulate, Refusal, refuse, ◌or_else◌, Outcome, settle}
 use Rattle.table.specs.declared.Limits.{Limits}
 use Rattle.table.specs.Table.{children, all_long}
@@ -42,7 +43,7 @@ steep_frame t = frame (fresh t.parents t.ranks Steep)
 unfoldable pub lent_fault : Limits → ℕ → Table → Option Refusal
 lent_fault L n t =
     refuse (eqb n 0) 1 0
-    or_else refuse (ltb L.nodes n) L.many 0
+    or_else refuse (ltb L.nodes n) (number L.many) 0
     or_else refuse (not (all_long n (t.parents ∷ t.ranks ∷ []))) 3 0
 
 unfoldable pub tallest : Limits → ℕ → Table → Outcome Framed Table

@@ -14,8 +14,8 @@ use Rattle.laws.specs.Search.{Refusal}
 use Rattle.laws.specs.Tests.{by_lt}
 use Rattle.table.specs.Acceptance.{validity-accepted, validity_refused, Accepting, accepting}
 use Rattle.table.specs.declared.Limits.{Limits}
-use Rattle.table.specs.declared.Validity.{Validity}
-use Rattle.table.specs.declared.Validity.TheVariants.{Accepted, Refused}
+use Rattle.table.specs.Validity.{Validity}
+use Rattle.table.specs.Validity.{Accepted, Refused}
 use Rattle.table.specs.Table.{table_fault}
 use Rattle.table.specs.Parts.{Validated}
 use Rattle.treefile.specs.Parts.{WordPut, Encoded}

@@ -13,12 +13,13 @@ use native.Mathlib.Omega.{arith}
 use Rattle.std.proofs.Math.ListN.{length, get_or, length-append, get_or-append}
 use Rattle.std.proofs.Math.Seq.{ext_get_or, get_or-append-add}
 use Rattle.std.proofs.lemmas.Bool.{not-false}
+use Rattle.faults.specs.Numbers.{number}
 use Rattle.laws.specs.Refusals.{or_else_second, or_else_none, refuse_no, refuse-none}
 use Rattle.laws.specs.Search.{Refusal, refuse, ◌or_else◌}
 use Rattle.laws.specs.SearchLaws.{length-tabulate, get_d_tabulate, tabulate_is}
 use Rattle.laws.specs.Tests.{by_lt, both_is}
 use Rattle.table.specs.Acceptance.{accepting}
-use Rattle.table.specs.declared.Counted.TheVariants.{Nodes, Refused}
+use Rattle.table.specs.Counted.{Nodes, Refused}
 use Rattle.table.specs.declared.Limits.{Limits}
 use Rattle.table.specs.Table.{shape_fault, tree_fault, table_fault}
 use Rattle.treefile.specs.TreeFile.{word_at, words, bytes_of, all_bytes, stated_nodes, file_parents, file_ranks}
@@ -224,7 +225,7 @@ unfolding open_fault
 file_long L B p r work e =
     let a = or_else_none (refuse (ltb (length B) 4) 16 0) _ e in
     let b = or_else_none (refuse (eqb (stated_nodes B) 0) 1 0) _ a.1 in
-    let c = or_else_none (refuse (ltb L.nodes (stated_nodes B)) L.many 0) _ b.1 in
+    let c = or_else_none (refuse (ltb L.nodes (stated_nodes B)) (number L.many) 0) _ b.1 in
     let d = or_else_none (refuse (not (eqb (length B) (4 + 8 * stated_nodes B))) 17 0) _ c.1 in
     eqb-true (length B) (4 + 8 * stated_nodes B) (not-false _ (refuse-none _ 17 0 d.0))
 
@@ -247,7 +248,7 @@ read_written L P R work e few p r X Y ex ey =
     let fits : open_fault L (file_of P R) (length X) (length Y) work ≡ none =
     or_else_second _ _ (refuse_no _ 16 0 (le-ltb (length (file_of P R)) 4 (omega arith)))
     ∙ or_else_second _ _ (refuse_no _ 1 0 (ne_eqb (stated_nodes (file_of P R)) 0 (λ z. omega arith)))
-    ∙ or_else_second _ _ (refuse_no _ L.many 0
+    ∙ or_else_second _ _ (refuse_no _ (number L.many) 0
     (le-ltb L.nodes (stated_nodes (file_of P R)) (omega arith)))
     ∙ or_else_second _ _ (refuse_no _ 17 0
     (ap not (eq-eqb (length (file_of P R)) (4 + 8 * stated_nodes (file_of P R)) (omega arith))))

@@ -12,10 +12,10 @@ use Rattle.laws.specs.Regions.{Only}
 use Rattle.laws.specs.Search.{Refusal}
 use Rattle.laws.specs.SearchLaws.{length-tabulate}
 use Rattle.table.specs.Acceptance.{Shape, shape_fits, validity-accepted, validity_refused}
-use Rattle.table.specs.declared.Counted.TheVariants.{Nodes, Refused}
+use Rattle.table.specs.Counted.{Nodes, Refused}
 use Rattle.table.specs.declared.Limits.{Limits}
-use Rattle.table.specs.declared.Validity.{Validity}
-use Rattle.table.specs.declared.Validity.TheVariants.{Accepted}
+use Rattle.table.specs.Validity.{Validity}
+use Rattle.table.specs.Validity.{Accepted}
 use Rattle.table.specs.Table.{tree_fault, table_fault}
 use Rattle.table.specs.Parts.{Copied, Validated}
 use Rattle.treefile.specs.Parts.{Opened, Tabled}
@@ -98,7 +98,7 @@ module _ {L : Limits} {B P R W W₁ W₂ : List ℕ} (o : Opened L B P R W)
         ranks_back =
             restored t.0 (λ i l. still (3 * length P + i) (omega arith)) y.0 (y.1 ∙ ranks_long ∙ sym o.ranks)
 
-        pub loaded_refused : {k u : ℕ} → v ≡ Rattle.table.specs.declared.Validity.TheVariants.Refused k u
+        pub loaded_refused : {k u : ℕ} → v ≡ Rattle.table.specs.Validity.Refused k u
             → Tabled B P R P₂ R₂ (Refused k u)
         unfolding loaded
         loaded_refused {k} {u} e = record {

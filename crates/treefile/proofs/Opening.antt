@@ -8,11 +8,12 @@ use native.Mathlib.Omega.{arith}
 use lib.Dec.{ltb, eqb}
 use lib.ListN.{length}
 use borrow.Author.Tests.{lt-ltb, le-ltb, eq-eqb, ne_eqb}
+use Rattle.faults.specs.Numbers.{number}
 use Rattle.laws.specs.Refusals.{refusal, some_not_none, or_else_first, or_else_second, refuse_yes, refuse_no}
 use Rattle.laws.specs.Search.{Refusal, refuse}
 use Rattle.laws.specs.Tests.{both_is}
-use Rattle.table.specs.declared.Counted.{Counted}
-use Rattle.table.specs.declared.Counted.TheVariants.{Refused}
+use Rattle.table.specs.Counted.{Counted}
+use Rattle.table.specs.Counted.{Refused}
 use Rattle.table.specs.declared.Limits.{Limits}
 use Rattle.treefile.specs.Parts.{Opened, Tabled}
 use Rattle.treefile.specs.TreeFile.{word_at, stated_nodes, open_fault, loaded, read_tree, Read}
@@ -47,15 +48,15 @@ module _ (L : Limits) (B P R W : List ℕ) where
       no_1 : refuse (eqb (stated_nodes B) 0) 1 0 ≡ none
       no_1 = refuse_no _ 1 0 (ne_eqb (stated_nodes B) 0 (λ e. h1 (sym stated ∙ e)))
 
-      pub refused_2 : L.nodes < n → Read L B P R W P R W (Refused L.many 0)
+      pub refused_2 : L.nodes < n → Read L B P R W P R W (Refused (number L.many) 0)
       unfolding open_fault
       refused_2 h =
           shut (or_else_second _ _ no_16 ∙ or_else_second _ _ no_1
-          ∙ or_else_first _ _ (refuse_yes _ L.many 0 (lt-ltb L.nodes (stated_nodes B) (omega (arith, stated)))))
+          ∙ or_else_first _ _ (refuse_yes _ (number L.many) 0 (lt-ltb L.nodes (stated_nodes B) (omega (arith, stated)))))
 
       module _ (h2 : n ≤ L.nodes) where
-        no_2 : refuse (ltb L.nodes (stated_nodes B)) L.many 0 ≡ none
-        no_2 = refuse_no _ L.many 0 (le-ltb L.nodes (stated_nodes B) (omega (arith, stated)))
+        no_2 : refuse (ltb L.nodes (stated_nodes B)) (number L.many) 0 ≡ none
+        no_2 = refuse_no _ (number L.many) 0 (le-ltb L.nodes (stated_nodes B) (omega (arith, stated)))
 
         pub refused_17 : (length B ≡ 4 + 8 * n → ⊥) → Read L B P R W P R W (Refused 17 0)
         unfolding open_fault

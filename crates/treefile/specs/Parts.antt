@@ -5,7 +5,7 @@
 --   Tabled B P R X Y r   == the answer r to an opened file, and the lists at exit
 use Rattle.std.specs.Prelude.{List, ◌≡◌, ℕ, ◌+◌, ◌*◌, ◌^◌, ◌≤◌, ◌<◌, length, get_or}
 use Rattle.laws.specs.Regions.{Only}
-use Rattle.table.specs.declared.Counted.{Counted}
+use Rattle.table.specs.Counted.{Counted}
 use Rattle.table.specs.declared.Limits.{Limits}
 use Rattle.table.specs.Table.{tree_fault}
 use Rattle.treefile.specs.TreeFile.{bytes_of, stated_nodes, file_parents, file_ranks, loaded}

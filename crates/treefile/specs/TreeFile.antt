@@ -15,9 +15,10 @@
 use Rattle.std.specs.Prelude.{true, cond, not, ◌&&◌, List, [], ◌∷◌, ◌++◌, ◌≡◌, ℕ, ◌+◌, ◌*◌, ◌/◌, ◌%◌, ltb, eqb, length}
 use Rattle.std.specs.Prelude.{get_or}
 use Rattle.std.proofs.Math.Option.{Option}
+use Rattle.faults.specs.Numbers.{number}
 use Rattle.laws.specs.Search.{tabulate, Refusal, refuse, ◌or_else◌, refused_or}
-use Rattle.table.specs.declared.Counted.{Counted}
-use Rattle.table.specs.declared.Counted.TheVariants.{Nodes, Refused}
+use Rattle.table.specs.Counted.{Counted}
+use Rattle.table.specs.Counted.{Nodes, Refused}
 use Rattle.table.specs.declared.Limits.{Limits}
 use Rattle.table.specs.Table.{shape_fault, tree_fault, table_fault, Called}
 use Rattle.treefile.specs.declared.Saved.{Saved}
@@ -65,7 +66,7 @@ unfoldable pub open_fault : Limits → List ℕ → ℕ → ℕ → ℕ → Opti
 open_fault L B parents ranks work =
     refuse (ltb (length B) 4) 16 0
     or_else refuse (eqb (stated_nodes B) 0) 1 0
-    or_else refuse (ltb L.nodes (stated_nodes B)) L.many 0
+    or_else refuse (ltb L.nodes (stated_nodes B)) (number L.many) 0
     or_else refuse (not (eqb (length B) (4 + 8 * stated_nodes B))) 17 0
     or_else refuse (not (eqb parents (stated_nodes B) && (eqb ranks (stated_nodes B) && eqb work (4 * stated_nodes B)))) 3 0
 

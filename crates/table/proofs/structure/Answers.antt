@@ -1,70 +1,55 @@
 -- Each refusal is decided over all nodes before the next.
-use mathlib.Core.Path.{◌∙◌}
-use native.Mathlib.Omega.{arith}
+use Rattle.std.proofs.Common.{sym, ◌∙◌, arith}
+use Rattle.std.proofs.lemmas.Result.{err_from_is_err_and}
+use Rattle.table.specs.Acceptance.{validity-accepted, validity_refused}
 use Rattle.table.proofs.FirstSlots.{scratch_kept}
 use Rattle.table.proofs.Validation.{structured_5, scratch_of, started_kept, structured_6, structured_7}
-use Rattle.table.proofs.Validation.{structured_all}
 use Rattle.table.proofs.structure.Goals as goal
 
-pub returns-then-v-n : goal.returns-then-v-n
-returns-then-v-n c = structured_5 c.requires c.stray_parent-v.ensures c.if-v-n.true
+pub returns-in_err-test_parents : goal.returns-in_err-test_parents
+returns-in_err-test_parents c =
+    let p = err_from_is_err_and c.from_residual.result c.from_residual.ensures.1 in
+    rw (p.1, p.2) (structured_5 c.requires (validity_refused _ _ _ (sym c.in_err-test_parents.ensures)))
 
 pub starts-requires : goal.starts-requires
-starts-requires c =
-    scratch_of c.requires c.stray_parent-v.ensures
-    c.if-v-n.false
+starts-requires c = scratch_of c.requires (validity-accepted _ (sym c.in_ok-test_parents.ensures))
 
-pub occupy-requires : goal.occupy-requires
-occupy-requires c =
-    record {
-      scratch = (
-        scratch_kept (scratch_of c.requires c.stray_parent-v.ensures c.if-v-n.false)
-            c.starts.ensures.2.long,
-        c.requires.lengths.ranks,
-      );
-      started = (c.starts.ensures.0, c.starts.ensures.1);
-    }
+pub occupy-requires-clause-scratch : goal.occupy-requires-clause-scratch
+occupy-requires-clause-scratch c = (
+  scratch_kept (scratch_of c.requires (validity-accepted _ (sym c.in_ok-test_parents.ensures))) c.starts.ensures.2.long,
+  c.requires.lengths.ranks,
+)
 
-pub bad_rank-v-requires : goal.bad_rank-v-requires
-bad_rank-v-requires c =
-    record {
-      scratch = (
-        scratch_kept (scratch_of c.requires c.stray_parent-v.ensures
-            c.if-v-n.false)
-            (c.occupy.ensures.1.long ∙ c.starts.ensures.2.long),
-        c.requires.lengths.ranks,
-      );
-      started = (
-        started_kept c.requires c.stray_parent-v.ensures c.if-v-n.false
-            c.starts.ensures c.occupy.ensures,
-        c.occupy.ensures.0,
-      );
-    }
+pub test_ranks-requires-clause-scratch : goal.test_ranks-requires-clause-scratch
+test_ranks-requires-clause-scratch c = (
+  scratch_kept (scratch_of c.requires (validity-accepted _ (sym c.in_ok-test_parents.ensures)))
+      (c.occupy.ensures.1.long ∙ c.starts.ensures.2.long),
+  c.requires.lengths.ranks,
+)
 
-pub returns-then-v-n-2 : goal.returns-then-v-n-2
-returns-then-v-n-2 c =
-    structured_6 c.requires c.stray_parent-v.ensures c.if-v-n.false
-    c.starts.ensures c.occupy.ensures c.bad_rank-v.ensures c.if-v-n-2.true
+pub test_ranks-requires-clause-started : goal.test_ranks-requires-clause-started
+test_ranks-requires-clause-started c = (
+  started_kept c.requires (validity-accepted _ (sym c.in_ok-test_parents.ensures)) c.starts.ensures c.occupy.ensures,
+  c.occupy.ensures.0,
+)
 
-pub drifting-v-requires : goal.drifting-v-requires
-drifting-v-requires c =
-    let started = started_kept c.requires c.stray_parent-v.ensures c.if-v-n.false
-    c.starts.ensures c.occupy.ensures in (
-      scratch_kept (scratch_of c.requires c.stray_parent-v.ensures c.if-v-n.false)
-          (c.clear.ensures.1.long ∙ c.occupy.ensures.1.long
-          ∙ c.starts.ensures.2.long),
+pub returns-in_err-test_ranks : goal.returns-in_err-test_ranks
+returns-in_err-test_ranks c =
+    let p = err_from_is_err_and c.from_residual-in_err-test_ranks.result c.from_residual-in_err-test_ranks.ensures.1 in
+    rw (p.1, p.2) (structured_6 c.requires (validity-accepted _ (sym c.in_ok-test_parents.ensures)) c.starts.ensures
+    c.occupy.ensures (validity_refused _ _ _ (sym c.in_err-test_ranks.ensures)))
+
+pub test_paths-requires : goal.test_paths-requires
+test_paths-requires c =
+    let no_5 = validity-accepted _ (sym c.in_ok-test_parents.ensures) in
+    let started = started_kept c.requires no_5 c.starts.ensures c.occupy.ensures in (
+      scratch_kept (scratch_of c.requires no_5)
+          (c.clear.ensures.1.long ∙ c.occupy.ensures.1.long ∙ c.starts.ensures.2.long),
       record { at = λ p l. c.clear.ensures.1.below p (omega arith) ∙ started.at p l },
       c.clear.ensures.0,
     )
 
-pub returns-then-v-n-3 : goal.returns-then-v-n-3
-returns-then-v-n-3 c =
-    structured_7 c.requires c.stray_parent-v.ensures c.if-v-n.false
-    c.starts.ensures c.occupy.ensures c.bad_rank-v.ensures
-    c.if-v-n-2.false c.clear.ensures.1 c.drifting-v.ensures c.if-v-n-3.true
-
 pub returns : goal.returns
 returns c =
-    structured_all c.requires c.stray_parent-v.ensures c.if-v-n.false
-    c.starts.ensures c.occupy.ensures c.bad_rank-v.ensures
-    c.if-v-n-2.false c.clear.ensures.1 c.drifting-v.ensures c.if-v-n-3.false
+    structured_7 c.requires (validity-accepted _ (sym c.in_ok-test_parents.ensures)) c.starts.ensures c.occupy.ensures
+    (validity-accepted _ (sym c.in_ok-test_ranks.ensures)) c.clear.ensures.1 c.test_paths.ensures

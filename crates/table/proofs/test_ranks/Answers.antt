@@ -2,10 +2,14 @@
 use native.Mathlib.Omega.{arith}
 use Rattle.table.proofs.Seats.{turn, seat_room, ranking_start, ranking_high, ranking_shared}
 use Rattle.table.proofs.Seats.{ranking_step, ranking_end}
-use Rattle.table.proofs.bad_rank.Goals as goal
+use Rattle.std.proofs.Common.{sym, ap}
+use Rattle.table.specs.Acceptance.{validity}
+use Rattle.table.specs.Validity.{told}
+use Rattle.table.proofs.Validation.{validity_of}
+use Rattle.table.proofs.test_ranks.Goals as goal
 
 pub loop-v-init : goal.loop-v-init
-loop-v-init c = ranking_start _ c.requires.scratch.0
+loop-v-init c = ranking_start _
 
 pub get-requires : goal.get-requires
 get-requires c =
@@ -27,10 +31,10 @@ get-requires-in-loop-v c =
 
 pub returns-then-get-s : goal.returns-then-get-s
 returns-then-get-s c =
-    ranking_high c.requires.scratch.0 c.requires.started.0 c.requires.started.1
-    c.loop-v.invariant c.loop-v-test.true
+    told c.at.ensures (validity_of (ranking_high c.requires.scratch.0 c.requires.started.0 c.requires.started.1
+    c.loop-v.invariant c.loop-v.auto.v c.loop-v-test.true
     (turn c.get-p.ensures.0 c.get-r.ensures.0 c.get.ensures.0
-    c.get-in-loop-v.ensures.0) c.if-get-s.true
+    c.get-in-loop-v.ensures.0) c.if-get-s.true))
 
 pub get-requires-in-loop-v-2 : goal.get-requires-in-loop-v-2
 get-requires-in-loop-v-2 c =
@@ -40,17 +44,18 @@ get-requires-in-loop-v-2 c =
 
 pub returns-then-get-gt1 : goal.returns-then-get-gt1
 returns-then-get-gt1 c =
-    ranking_shared c.requires.scratch.0 c.requires.started.0 c.requires.started.1
-    c.loop-v.invariant c.loop-v-test.true
+    told c.at-then-get-gt1.ensures (validity_of (ranking_shared c.requires.scratch.0 c.requires.started.0 c.requires.started.1
+    c.loop-v.invariant c.loop-v.auto.v c.loop-v-test.true
     (turn c.get-p.ensures.0 c.get-r.ensures.0 c.get.ensures.0
-    c.get-in-loop-v.ensures.0) c.if-get-s.false c.get-in-loop-v-2.ensures.0 c.if-get-gt1.true
+    c.get-in-loop-v.ensures.0) c.if-get-s.false c.get-in-loop-v-2.ensures.0 c.if-get-gt1.true))
 
 pub loop-v-preserved : goal.loop-v-preserved
 loop-v-preserved c =
     ranking_step c.requires.scratch.0 c.requires.started.0 c.requires.started.1
-    c.loop-v.invariant c.loop-v-test.true
+    c.loop-v.invariant c.loop-v.auto.v c.loop-v-test.true
     (turn c.get-p.ensures.0 c.get-r.ensures.0 c.get.ensures.0
     c.get-in-loop-v.ensures.0) c.if-get-s.false c.get-in-loop-v-2.ensures.0 c.if-get-gt1.false
 
 pub returns : goal.returns
-returns c = ranking_end c.loop-v.invariant c.loop-v-test.false
+unfolding validity
+returns c = sym (ap validity (ranking_end c.loop-v.invariant c.loop-v-test.false))
