@@ -22,8 +22,8 @@ use Rattle.stretching.specs.Stretching.{beyond}
 use Rattle.stretching.specs.Stretches.{longer}
 use Rattle.aligning.specs.Aligning.{Says, Aligns}
 use Rattle.aligning.specs.AlignLaws.{Obstacle, obstacle_none, left_over, fills_brings, wide}
-use Rattle.aligning.specs.declared.Aligned.{Aligned}
-use Rattle.aligning.specs.declared.Aligned.TheVariants as aligned
+use Rattle.aligning.specs.Aligned.{Aligned}
+use Rattle.aligning.specs.Aligned as aligned
 
 module _ {L : Limits} {P R : List ℕ} {rule : Rule} {s : Sheet} {work v : ℕ} (e : Examined L P R rule s work v)
     (column : ℕ) where

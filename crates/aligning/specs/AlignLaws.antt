@@ -25,8 +25,8 @@ use Rattle.table.specs.declared.Limits.{Limits}
 use Rattle.slopes.specs.declared.Rule.{Rule}
 use Rattle.slopes.proofs.SlopeLaws.{edge_positive}
 use Rattle.slopes.specs.Slopes.{across_of, edge}
-use Rattle.drawing.specs.declared.Framed.{Framed}
-use Rattle.drawing.specs.declared.Framed.TheVariants as framed
+use Rattle.drawing.specs.Framed.{Framed}
+use Rattle.drawing.specs.Framed as framed
 use Rattle.drawing.specs.Drawing.{Drawing, Sheet, frame, accepted}
 use Rattle.stretching.specs.Calls.{Examined}
 use Rattle.stretching.proofs.CallLaws.{examined, examined_again, free_again, beyond_no, lengthen-accepted}
@@ -35,8 +35,8 @@ use Rattle.stretching.specs.Stretching.{beyond, lot_fault, is_held, lengthen}
 use Rattle.stretching.specs.Stretches.{longer}
 use Rattle.stretching.proofs.StretchLaws.{offset_in, longer_stretch}
 use Rattle.aligning.specs.Aligning.{Brings, Says}
-use Rattle.aligning.specs.declared.Aligned.{Aligned}
-use Rattle.aligning.specs.declared.Aligned.TheVariants.{Count, None, Refused}
+use Rattle.aligning.specs.Aligned.{Aligned}
+use Rattle.aligning.specs.Aligned.{Count, None, Refused}
 
 -- what is accepted is answered by a frame
 framed_of : (o : Outcome Framed Sheet) → accepted o.answer ≡ true

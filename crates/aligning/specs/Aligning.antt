@@ -11,8 +11,8 @@ use Rattle.slopes.specs.declared.Rule.{Rule}
 use Rattle.drawing.specs.Drawing as drawing
 use Rattle.drawing.specs.Drawing.{Sheet, lengths_fit}
 use Rattle.stretching.specs.Stretching.{lot_fault, lengthen}
-use Rattle.aligning.specs.declared.Aligned.{Aligned}
-use Rattle.aligning.specs.declared.Aligned.TheVariants.{Count, None, Refused}
+use Rattle.aligning.specs.Aligned.{Aligned}
+use Rattle.aligning.specs.Aligned.{Count, None, Refused}
 
 module _ (L : Limits) (P R : List ℕ) (rule : Rule) (s : Sheet) (work v column : ℕ) where
   pub record Brings (c : ℕ) : Type 0 where

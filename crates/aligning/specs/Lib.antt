@@ -1,3 +1,4 @@
+pub mod Aligned
 pub mod Aligning
 pub mod AlignLaws
 pub mod NarrowLaws

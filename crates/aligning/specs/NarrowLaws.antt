@@ -14,15 +14,15 @@ use Rattle.laws.specs.Tests.{differ}
 use Rattle.table.specs.declared.Limits.{Limits}
 use Rattle.table.specs.Table.{large, small}
 use Rattle.slopes.specs.declared.Rule.{Rule}
-use Rattle.drawing.specs.declared.Framed.{Framed}
+use Rattle.drawing.specs.Framed.{Framed}
 use Rattle.drawing.specs.Drawing.{Sheet, accepted}
 use Rattle.stretching.specs.Stretching.{lengthen}
 use Rattle.small.specs.Small.{Narrower, Near}
 use Rattle.small.proofs.SmallLaws.{lot_same, lengthen_same_or_far, small-within}
 use Rattle.aligning.specs.Aligning.{Brings, Says}
 use Rattle.aligning.specs.AlignLaws.{unrefused, one_bringing}
-use Rattle.aligning.specs.declared.Aligned.{Aligned}
-use Rattle.aligning.specs.declared.Aligned.TheVariants.{Count, None, Refused}
+use Rattle.aligning.specs.Aligned.{Aligned}
+use Rattle.aligning.specs.Aligned.{Count, None, Refused}
 
 module _ (S : Limits) (P R : List ℕ) (rule : Rule) (s : Sheet) (work v : ℕ) where
   abbrev takes : ℕ → Bool

@@ -6,21 +6,15 @@ ghost use Rattle.table.specs.Numbering.{NumberedTree};
 ghost use Rattle.table.specs.Table.{large};
 ghost use Rattle.drawing.specs.Drawing.{lent, sheet_of, sheet, to_read};
 ghost use Rattle.stretching.specs.Calls.{Examined};
+ghost use Rattle.aligning.specs.Aligned.{told, aligned};
 ghost use Rattle.aligning.specs.Aligning.{Says, Aligns};
 
+use faults::Refusal;
 use slopes::{Rule, edge_slope};
 use stretching::{examine, too_far};
-use table::{Limits, Validity, get, large_limits};
+use table::{Limits, get, large_limits};
 
-// The count that brings a lot to a column, none, or a refusal's number and lot.
-#[derive(Clone, Copy)]
-pub enum Aligned {
-    Count(u32),
-    None,
-    Refused(u32, u32),
-}
-
-// The answer for a lot that 1 to 10 accept, on a numbered table.
+// The count for a lot that 1 to 10 accept, on a numbered table.
 fn count_to(
     limits: Limits,
     rule: Rule,
@@ -33,28 +27,28 @@ fn count_to(
     work: &[u32],
     v: usize,
     column: u32,
-) -> Aligned
+) -> Option<u32>
     requires { Examined limits parent.now rank.now rule
         (sheet_of (lent times.now x.now y.now) held.now) (length work.now) v
         × NumberedTree parent.now rank.now work.now }
     ensures { Says limits parent.now rank.now rule
         (sheet (to_read times) (to_read x) (to_read y) (to_read held)).entry
-        (length work.now) v column result }
+        (length work.now) v column (told result) }
 {
     if get(held, v) == 1 {
-        return Aligned::None;
+        return None;
     }
     let place = get(x, v);
     let goal = column as usize;
     if goal < place {
-        return Aligned::None;
+        return None;
     }
     let gap = goal - place;
     let slope = edge_slope(rule, parent, rank, work, v);
     let across = slope.across as usize;
     let whole = gap / across;
     if whole * across != gap {
-        return Aligned::None;
+        return None;
     }
     let count = whole as u32;
     let limit = limits.place as usize;
@@ -62,9 +56,9 @@ fn count_to(
         limit, rule, parent, rank, times, x, y, work, v, slope, count,
     );
     if far {
-        return Aligned::None;
+        return None;
     }
-    Aligned::Count(count)
+    Some(count)
 }
 
 // Column at any limits.
@@ -80,30 +74,16 @@ pub fn column_within(
     work: &mut [u32],
     lot: u32,
     column: u32,
-) -> Aligned
+) -> Result<Option<u32>, Refusal>
     ensures { Aligns limits parent.now rank.now rule
         (sheet (to_read times) (to_read x) (to_read y) (to_read held)).entry
-        work.old work.new lot column result }
+        work.old work.new lot column (aligned result) }
 {
-    let verdict = examine(limits, rule, parent, rank, times, x, y, held, work, lot);
-    match verdict {
-        Validity::Refused(k, v) => Aligned::Refused(k, v),
-        Validity::Accepted => {
-            count_to(
-                limits,
-                rule,
-                parent,
-                rank,
-                times,
-                x,
-                y,
-                held,
-                work,
-                lot as usize,
-                column,
-            )
-        }
-    }
+    examine(limits, rule, parent, rank, times, x, y, held, work, lot)?;
+    let v = lot as usize;
+    Ok(count_to(
+        limits, rule, parent, rank, times, x, y, held, work, v, column,
+    ))
 }
 
 // The count by which lengthen brings `lot` to a column, or none where no count does; nothing is moved. The work list
@@ -119,10 +99,10 @@ pub fn column(
     work: &mut [u32],
     lot: u32,
     column: u32,
-) -> Aligned
+) -> Result<Option<u32>, Refusal>
     ensures { Aligns large parent.now rank.now rule
         (sheet (to_read times) (to_read x) (to_read y) (to_read held)).entry
-        work.old work.new lot column result }
+        work.old work.new lot column (aligned result) }
 {
     let limits = large_limits();
     column_within(

@@ -24,13 +24,13 @@ use Rattle.laws.specs.Tests.{by_test, differ}
 use Rattle.table.specs.declared.Limits.{Limits}
 use Rattle.table.specs.Table.{shape_fault}
 use Rattle.slopes.specs.declared.Rule.{Rule}
-use Rattle.drawing.specs.declared.Framed.{Framed}
-use Rattle.drawing.specs.declared.Framed.TheVariants as framed
+use Rattle.drawing.specs.Framed.{Framed}
+use Rattle.drawing.specs.Framed as framed
 use Rattle.drawing.specs.Drawing.{Sheet, lengths_fit, frame, accepted}
 use Rattle.stretching.proofs.CallLaws.{accepted_stretches}
 use Rattle.stretching.specs.Stretching.{lengthen}
-use Rattle.arranging.specs.declared.Arranged.{Arranged}
-use Rattle.arranging.specs.declared.Arranged.TheVariants.{Frame, Refused}
+use Rattle.arranging.specs.Arranged.{Arranged}
+use Rattle.arranging.specs.Arranged.{Frame, Refused}
 use Rattle.arranging.specs.Arranging.{lists_fault, each_fault, at_place, whole, in_turn, lengthen_each}
 
 ------------------------------------------------------------------------

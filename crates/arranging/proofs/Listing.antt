@@ -19,8 +19,8 @@ use Rattle.slopes.specs.declared.Rule.{Rule}
 use Rattle.drawing.specs.Drawing.{Sheet, lengths_fit, lot_fits, sheet_fault}
 use Rattle.inspecting.specs.Parts.{Inspecting}
 use Rattle.stretching.proofs.Openings.{opened}
-use Rattle.arranging.specs.declared.Arranged.{Arranged}
-use Rattle.arranging.specs.declared.Arranged.TheVariants as answer
+use Rattle.arranging.specs.Arranged.{Arranged}
+use Rattle.arranging.specs.Arranged as answer
 use Rattle.arranging.specs.Arranging.{lists_fault, each_fault, in_turn, lengthen_each}
 use Rattle.arranging.specs.Parts.{Listed}
 

@@ -11,13 +11,13 @@ use Rattle.table.specs.declared.Limits.{Limits}
 use Rattle.table.specs.Validity.{Validity}
 use Rattle.table.specs.Validity.{Accepted, Refused}
 use Rattle.slopes.specs.declared.Rule.{Rule}
-use Rattle.drawing.specs.declared.Framed.{Framed}
+use Rattle.drawing.specs.Framed.{Framed}
 use Rattle.drawing.specs.Drawing.{Sheet, frame}
 use Rattle.stretching.specs.Parts.{Opened, framing}
 use Rattle.stretching.proofs.Openings.{opened_after}
 use Rattle.stretching.specs.Stretching.{lengthen}
-use Rattle.arranging.specs.declared.Arranged.{Arranged}
-use Rattle.arranging.specs.declared.Arranged.TheVariants as answer
+use Rattle.arranging.specs.Arranged.{Arranged}
+use Rattle.arranging.specs.Arranged as answer
 use Rattle.arranging.specs.Arranging.{at_place, in_turn}
 use Rattle.arranging.proofs.EachLaws.{turn_goes_on, turn_stops}
 

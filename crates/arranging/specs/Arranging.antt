@@ -15,12 +15,12 @@ use Rattle.laws.specs.Search.{Refusal, refuse, ◌or_else◌, Outcome, settle}
 use Rattle.table.specs.declared.Limits.{Limits}
 use Rattle.table.specs.Table.{shape_fault, Called}
 use Rattle.slopes.specs.declared.Rule.{Rule}
-use Rattle.drawing.specs.declared.Framed.{Framed}
-use Rattle.drawing.specs.declared.Framed.TheVariants as framed
+use Rattle.drawing.specs.Framed.{Framed}
+use Rattle.drawing.specs.Framed as framed
 use Rattle.drawing.specs.Drawing.{Sheet, lengths_fit, frame, accepted, sheet_fault, Lent}
 use Rattle.stretching.specs.Stretching.{lengthen}
-use Rattle.arranging.specs.declared.Arranged.{Arranged}
-use Rattle.arranging.specs.declared.Arranged.TheVariants.{Frame, Refused}
+use Rattle.arranging.specs.Arranged.{Arranged}
+use Rattle.arranging.specs.Arranged.{Frame, Refused}
 
 ------------------------------------------------------------------------
 -- Refusals

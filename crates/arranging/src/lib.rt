@@ -3,32 +3,34 @@
 
 ghost use Rattle.std.specs.Prelude.{◌≡◌, length};
 ghost use Rattle.table.specs.Table.{large};
+ghost use Rattle.table.specs.Validity.{valid};
 ghost use Rattle.drawing.specs.Drawing.{lent, sheet_of, sheet, to_read, to_write};
 ghost use Rattle.drawing.specs.Parts.{FramesFit};
 ghost use Rattle.stretching.specs.Parts.{Opened};
-ghost use Rattle.arranging.specs.Arranging.{at_place, in_turn, Arranges};
+ghost use Rattle.arranging.specs.Arranged.{arranged};
+ghost use Rattle.arranging.specs.Arranging.{in_turn, Arranges};
 ghost use Rattle.arranging.specs.Parts.{Listed};
 
-use drawing::{Framed, all_long, frame_of};
+use drawing::{Frame, all_long, frame_of};
+use faults::{Fault, Refusal};
 use inspecting::inspect;
 use slopes::Rule;
 use stretching::lengthen_edge;
-use table::{Limits, Validity, large_limits, test_lengths};
+use table::{Limits, large_limits, test_lengths};
 
-// What a list of lengthens answers: the frame, or the first refusal's number, its lot and its place in the lists.
+// A refusal, and the place in the lists of the lengthen that it stops, from 1: 0 where it stops them all.
 #[derive(Clone, Copy)]
-pub enum Arranged {
-    Frame(u32, u32),
-    Refused(u32, u32, usize),
+pub struct Stopped {
+    pub refusal: Refusal,
+    pub place: usize,
 }
 
-// A lengthen's answer, at its place.
-fn at_place(answer: Framed, place: usize) -> Arranged
-    ensures { result ≡ at_place answer place }
-{
-    match answer {
-        Framed::Frame(width, height) => Arranged::Frame(width, height),
-        Framed::Refused(number, lot) => Arranged::Refused(number, lot, place),
+// A refusal of them all.
+impl From<Refusal> for Stopped {
+    ghost from_gives = { λ r s. s ≡ record { refusal = r; place = 0 } };
+
+    fn from(refusal: Refusal) -> Stopped {
+        Stopped { refusal, place: 0 }
     }
 }
 
@@ -45,20 +47,17 @@ fn inspect_lists(
     work: &mut [u32],
     lots: &[u32],
     counts: &[u32],
-) -> Validity
+) -> Result<(), Refusal>
     ensures { Listed limits parent.now rank.now rule
         (sheet (to_read times) (to_read x) (to_read y) (to_read held)).entry
-        work.old lots.now counts.now work.new result }
+        work.old lots.now counts.now work.new (valid result) }
 {
     if lots.len() == counts.len() {
         return inspect(limits, rule, parent, rank, times, x, y, held, work);
     }
     let long = all_long(parent.len(), times, x, y, held);
-    let valid = test_lengths(limits, parent, rank, long, work);
-    match valid {
-        Validity::Refused(k, v) => Validity::Refused(k, v),
-        Validity::Accepted => Validity::Refused(19, 0),
-    }
+    test_lengths(limits, parent, rank, long, work)?;
+    Err(Fault::ListsDiffer.at(0))
 }
 
 // The lengthens of the lists, one after another up to the first refused one, on an accepted sheet whose table is
@@ -75,12 +74,12 @@ fn lengthen_in_turn(
     work: &[u32],
     lots: &[u32],
     counts: &[u32],
-) -> Arranged
+) -> Result<Frame, Stopped>
     requires { FramesFit limits × Opened limits parent.now rank.now rule
         (sheet_of (lent times.old x.old y.old) held.now) work.now
         × (length counts.now ≡ length lots.now) }
     ensures { record {
-      answer = result;
+      answer = arranged result;
       left =
           (sheet (to_write times) (to_write x) (to_write y) (to_read held)).exit;
     }
@@ -119,23 +118,18 @@ pub fn lengthen_each_within(
     work: &mut [u32],
     lots: &[u32],
     counts: &[u32],
-) -> Arranged
+) -> Result<Frame, Stopped>
     requires { FramesFit limits }
     ensures { Arranges limits (to_read parent) (to_read rank) rule
         (sheet (to_write times) (to_write x) (to_write y) (to_read held))
-        (to_write work) (to_read lots) (to_read counts) result }
+        (to_write work) (to_read lots) (to_read counts) (arranged result) }
 {
-    let valid = inspect_lists(
+    inspect_lists(
         limits, rule, parent, rank, times, x, y, held, work, lots, counts,
-    );
-    match valid {
-        Validity::Refused(k, v) => Arranged::Refused(k, v, 0),
-        Validity::Accepted => {
-            lengthen_in_turn(
-                limits, rule, parent, rank, times, x, y, held, work, lots, counts,
-            )
-        }
-    }
+    )?;
+    lengthen_in_turn(
+        limits, rule, parent, rank, times, x, y, held, work, lots, counts,
+    )
 }
 
 // Makes the edge of each lot in the list longer by its count, one after another, and returns the frame. The first that
@@ -152,10 +146,10 @@ pub fn lengthen_each(
     work: &mut [u32],
     lots: &[u32],
     counts: &[u32],
-) -> Arranged
+) -> Result<Frame, Stopped>
     ensures { Arranges large (to_read parent) (to_read rank) rule
         (sheet (to_write times) (to_write x) (to_write y) (to_read held))
-        (to_write work) (to_read lots) (to_read counts) result }
+        (to_write work) (to_read lots) (to_read counts) (arranged result) }
 {
     let limits = large_limits();
     lengthen_each_within(

@@ -32,8 +32,8 @@ use Rattle.slopes.specs.declared.Rule.{Rule}
 use Rattle.slopes.specs.declared.Slope.{Slope}
 use Rattle.slopes.specs.Slopes.{across_of, up_of, edge}
 use Rattle.drawing.specs.CallLaws.{settled, layout_sound}
-use Rattle.drawing.specs.declared.Framed.{Framed}
-use Rattle.drawing.specs.declared.Framed.TheVariants.{Frame}
+use Rattle.drawing.specs.Framed.{Framed}
+use Rattle.drawing.specs.Framed.{Frame}
 use Rattle.drawing.specs.Drawing.{Drawing, Sheet, lengths_fit, frame, accepted, path_sum, fresh, fresh_sheet, layout}
 use Rattle.drawing.specs.DrawingLaws.{Coordinate, step_of}
 use Rattle.drawing.specs.FreshLaws.{Roomy, large_roomy, small_roomy, fresh_once}
@@ -46,13 +46,13 @@ use Rattle.stretching.proofs.StretchLaws.{stretch_counts}
 use Rattle.holding.specs.Holding.{entry, hold}
 use Rattle.holding.proofs.HoldLaws.{Marking, hold_does, held_here, held_others}
 use Rattle.arranging.specs.Arranging.{each_fault, in_turn, lengthen_each}
-use Rattle.arranging.specs.declared.Arranged.{Arranged}
-use Rattle.arranging.specs.declared.Arranged.TheVariants.{Refused}
-use Rattle.direction.specs.declared.Heading.TheVariants.{Along}
+use Rattle.arranging.specs.Arranged.{Arranged}
+use Rattle.arranging.specs.Arranged.{Refused}
+use Rattle.direction.specs.Heading.{Along}
 use Rattle.direction.specs.Direction.{direction}
 use Rattle.direction.proofs.DirectionLaws.{direction_rises, edges_apart}
-use Rattle.monotone.specs.declared.Verdict.{Verdict}
-use Rattle.monotone.specs.declared.Verdict.TheVariants.{Monotone}
+use Rattle.monotone.specs.Verdict.{Verdict}
+use Rattle.monotone.specs.Verdict.{Monotone}
 use Rattle.monotone.specs.Monotone.{HasDirection, place_beyond, check_fault, Says}
 use Rattle.monotone.specs.MonotoneLaws.{says_one}
 use Rattle.claim.specs.Claim.{Single, Lengthen, Shorten, Hold, Call, One, LengthenEach, adds, takes, frees}

@@ -22,16 +22,16 @@ use Rattle.table.specs.Paths.{PathRises, SharePoint, CommonEnd}
 use Rattle.table.specs.Table.{parent, large, checked}
 use Rattle.slopes.specs.declared.Rule.{Rule}
 use Rattle.slopes.specs.Slopes.{across_of, up_of, edge}
-use Rattle.drawing.specs.declared.Framed.{Framed}
-use Rattle.drawing.specs.declared.Framed.TheVariants.{Frame}
+use Rattle.drawing.specs.Framed.{Framed}
+use Rattle.drawing.specs.Framed.{Frame}
 use Rattle.drawing.specs.Drawing.{Sheet, path_sum, accepted, layout}
 use Rattle.stretching.specs.Stretching.{is_held, lengthen, shorten}
 use Rattle.holding.specs.Holding.{hold}
 use Rattle.arranging.specs.Arranging.{each_fault, lengthen_each}
-use Rattle.direction.specs.declared.Heading.TheVariants.{Along}
+use Rattle.direction.specs.Heading.{Along}
 use Rattle.direction.specs.Direction.{direction}
-use Rattle.monotone.specs.declared.Verdict.{Verdict}
-use Rattle.monotone.specs.declared.Verdict.TheVariants.{Monotone}
+use Rattle.monotone.specs.Verdict.{Verdict}
+use Rattle.monotone.specs.Verdict.{Monotone}
 use Rattle.monotone.specs.Monotone.{Says}
 
 ------------------------------------------------------------------------

@@ -27,8 +27,8 @@ use Rattle.slopes.specs.declared.Rule.{Rule}
 use Rattle.slopes.specs.declared.Slope.{Slope}
 use Rattle.slopes.specs.Slopes.{slope_at, edge}
 use Rattle.slopes.proofs.SlopeLaws.{slope_positive, slope_increasing}
-use Rattle.direction.specs.declared.Heading.{Heading}
-use Rattle.direction.specs.declared.Heading.TheVariants.{Along, Refused}
+use Rattle.direction.specs.Heading.{Heading}
+use Rattle.direction.specs.Heading.{Along, Refused}
 use Rattle.direction.specs.Direction.{sideways, heading, course, pair_fault, direction, Directed}
 use Rattle.direction.proofs.RisingPaths.{Rising, DrawnAlong, rising_paths}
 use Rattle.direction.proofs.NoCrossing.{no_crossing}

@@ -11,8 +11,8 @@ use Rattle.table.specs.Table.{rank, climb, under, steps_up}
 use Rattle.table.specs.Ancestry.{climb-zero, climb-inside, steps_up-zero, steps_up_some, steps_up_way}
 use Rattle.slopes.specs.declared.Slope.{Slope}
 use Rattle.slopes.specs.Slopes.{◌⊕◌}
-use Rattle.direction.specs.declared.Heading.{Heading}
-use Rattle.direction.specs.declared.Heading.TheVariants.{Along}
+use Rattle.direction.specs.Heading.{Heading}
+use Rattle.direction.specs.Heading.{Along}
 use Rattle.direction.specs.Direction.{left_of, right_of, sideways, heading}
 use Rattle.direction.specs.Parts.{LargeTree, TwoNodes, TwoEdges}
 

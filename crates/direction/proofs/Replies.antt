@@ -15,8 +15,8 @@ use Rattle.table.specs.Table.{large}
 use Rattle.table.specs.Acceptance.{accepting}
 use Rattle.table.specs.Parts.{Prepared, fault, no_fault}
 use Rattle.slopes.specs.declared.Rule.{Rule}
-use Rattle.direction.specs.declared.Heading.{Heading}
-use Rattle.direction.specs.declared.Heading.TheVariants.{Refused}
+use Rattle.direction.specs.Heading.{Heading}
+use Rattle.direction.specs.Heading.{Refused}
 use Rattle.direction.specs.Direction.{course, pair_fault, direction, Directed}
 use Rattle.direction.specs.Parts.{LargeTree, PairAnswered}
 

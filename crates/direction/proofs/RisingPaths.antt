@@ -29,7 +29,7 @@ use Rattle.table.specs.PathLaws.{rises_by, path_back}
 use Rattle.slopes.specs.declared.Slope.{Slope}
 use Rattle.slopes.specs.Slopes.{◌⊕◌}
 use Rattle.slopes.proofs.LevelLaws.{Below}
-use Rattle.direction.specs.declared.Heading.TheVariants.{Along}
+use Rattle.direction.specs.Heading.{Along}
 use Rattle.direction.specs.Direction.{sideways, heading}
 
 pub record Rising (s : ℕ → Slope) (n : ℕ) : Type 0 where

@@ -9,7 +9,7 @@ use mir.Val.{to_z, of_z, SFits}
 use mir.ValLaws.{to_z_pos, to_z-of_z}
 use Rattle.slopes.specs.declared.Slope.{Slope}
 use Rattle.slopes.specs.Slopes.{◌⊕◌}
-use Rattle.direction.specs.declared.Heading.TheVariants.{Along}
+use Rattle.direction.specs.Heading.{Along}
 use Rattle.direction.specs.Direction.{left_of, right_of}
 use Rattle.direction.specs.Parts.{SmallSlope}
 

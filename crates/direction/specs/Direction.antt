@@ -19,8 +19,8 @@ use Rattle.table.specs.Table.{rank, climb, steps_up, shape_fault, table_fault, C
 use Rattle.slopes.specs.declared.Rule.{Rule}
 use Rattle.slopes.specs.declared.Slope.{Slope}
 use Rattle.slopes.specs.Slopes.{◌⊕◌, edge}
-use Rattle.direction.specs.declared.Heading.{Heading}
-use Rattle.direction.specs.declared.Heading.TheVariants.{Along, Refused}
+use Rattle.direction.specs.Heading.{Heading}
+use Rattle.direction.specs.Heading.{Along, Refused}
 
 ------------------------------------------------------------------------
 -- From one node to another

@@ -6,8 +6,8 @@ use Rattle.table.specs.Table.{forest, postorder, place, order, post_number}
 use Rattle.table.specs.Table.{stray_parent, bad_rank, adrift, large, shape_fault, tree_fault, table_fault}
 use Rattle.slopes.specs.declared.Rule.TheVariants.{Steep}
 use Rattle.slopes.specs.Slopes.{slope_at, edge}
-use Rattle.direction.specs.declared.Heading.{Heading}
-use Rattle.direction.specs.declared.Heading.TheVariants.{Along, Refused}
+use Rattle.direction.specs.Heading.{Heading}
+use Rattle.direction.specs.Heading.{Along, Refused}
 use Rattle.direction.specs.Direction.{sideways, heading, pair_fault, direction}
 
 pub record Case : Type 0 where

@@ -12,8 +12,8 @@ use Rattle.table.specs.Table.{under, large}
 use Rattle.table.specs.Numbering.{NumberedTree}
 use Rattle.slopes.specs.declared.Rule.{Rule}
 use Rattle.slopes.specs.declared.Slope.{Slope}
-use Rattle.direction.specs.declared.Heading.{Heading}
-use Rattle.direction.specs.declared.Heading.TheVariants.{Refused}
+use Rattle.direction.specs.Heading.{Heading}
+use Rattle.direction.specs.Heading.{Refused}
 use Rattle.direction.specs.Direction.{course, pair_fault}
 
 pub record LargeTree (P R W : List ℕ) : Type 0 where

@@ -16,8 +16,8 @@ use Rattle.table.specs.Parts.{Zeroed, Tested, fault, no_fault}
 use Rattle.table.specs.Parts as table
 use Rattle.table.specs.Table.{table_fault}
 use Rattle.slopes.specs.declared.Rule.{Rule}
-use Rattle.drawing.specs.declared.Framed.{Framed}
-use Rattle.drawing.specs.declared.Framed.TheVariants as framed
+use Rattle.drawing.specs.Framed.{Framed}
+use Rattle.drawing.specs.Framed as framed
 use Rattle.drawing.specs.CallLaws.{fresh-within}
 use Rattle.drawing.specs.Drawing.{Drawing, Sheet, sheet_of, lengths_fit, fresh, fresh_sheet, frame, layout, OnSheet}
 use Rattle.drawing.specs.FreshLaws.{Roomy}

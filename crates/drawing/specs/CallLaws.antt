@@ -17,8 +17,8 @@ use Rattle.table.specs.declared.Limits.{Limits}
 use Rattle.table.specs.Table.{table_fault}
 use Rattle.table.specs.TableLaws.{Tree}
 use Rattle.slopes.specs.declared.Rule.{Rule}
-use Rattle.drawing.specs.declared.Framed.{Framed}
-use Rattle.drawing.specs.declared.Framed.TheVariants.{Frame, Refused}
+use Rattle.drawing.specs.Framed.{Framed}
+use Rattle.drawing.specs.Framed.{Frame, Refused}
 use Rattle.drawing.specs.Drawing.{Sheet, lengths_fit, fresh_sheet, frame, sheet_fault, layout}
 use Rattle.drawing.specs.FreshLaws.{Roomy, fresh_drawn}
 use Rattle.drawing.specs.SheetLaws.{Sound, long_fits, fits_sound, sound_fits, sound_long}

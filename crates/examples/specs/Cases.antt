@@ -33,8 +33,8 @@ use Rattle.slopes.specs.Bounds.{across_bound, up_bound}
 use Rattle.slopes.proofs.SlopeLaws.{levels_for_is}
 use Rattle.slopes.specs.Slopes.{levels, level_numbers, flat, upright, level_at, levels_for, slope_at, edge}
 use Rattle.slopes.specs.Ten.{◌over◌}
-use Rattle.drawing.specs.declared.Framed.{Framed}
-use Rattle.drawing.specs.declared.Framed.TheVariants.{Frame, Refused}
+use Rattle.drawing.specs.Framed.{Framed}
+use Rattle.drawing.specs.Framed.{Frame, Refused}
 use Rattle.drawing.specs.Drawing as drawing
 use Rattle.drawing.specs.Drawing.{Sheet, sum_up, path_sum, fresh_places, fresh, largest, frame, accepted, placed}
 use Rattle.drawing.specs.Drawing.{node_fits}
@@ -43,23 +43,23 @@ use Rattle.stretching.specs.Stretching.{moved, stretched, beyond, edge_fault, lo
 use Rattle.stretching.specs.Stretching.{shorten}
 use Rattle.holding.specs.Holding.{hold}
 use Rattle.arranging.specs.Arranging.{lists_fault, each_fault, at_place, in_turn, lengthen_each}
-use Rattle.arranging.specs.declared.Arranged.{Arranged}
-use Rattle.arranging.specs.declared.Arranged.TheVariants as arranged
+use Rattle.arranging.specs.Arranged.{Arranged}
+use Rattle.arranging.specs.Arranged as arranged
 use Rattle.reordering.specs.Reordering.{Lengthening, made, all_accepted, after}
 use Rattle.aligning.specs.Aligning as aligning
 use Rattle.aligning.specs.AlignLaws.{Obstacle, obstacle_none, beyond-none}
-use Rattle.aligning.specs.declared.Aligned.{Aligned}
-use Rattle.aligning.specs.declared.Aligned.TheVariants as aligned
+use Rattle.aligning.specs.Aligned.{Aligned}
+use Rattle.aligning.specs.Aligned as aligned
 use Rattle.tallest.specs.Tallest.{Table, table_of, chain_of, steep_frame, lent_fault, tallest}
 use Rattle.tallest.proofs.TallestLaws.{tallest_answers}
-use Rattle.window.specs.declared.View.{View}
-use Rattle.window.specs.declared.View.TheVariants as view
+use Rattle.window.specs.View.{View}
+use Rattle.window.specs.View as view
 use Rattle.window.specs.Window as window
 use Rattle.window.specs.Window.{greatest, within, inside}
-use Rattle.direction.specs.declared.Heading.TheVariants.{Along}
+use Rattle.direction.specs.Heading.{Along}
 use Rattle.direction.specs.Direction.{sideways, heading, pair_fault, direction}
-use Rattle.monotone.specs.declared.Verdict.{Verdict}
-use Rattle.monotone.specs.declared.Verdict.TheVariants.{Monotone, Turns}
+use Rattle.monotone.specs.Verdict.{Verdict}
+use Rattle.monotone.specs.Verdict.{Monotone, Turns}
 use Rattle.monotone.proofs.Decision.{widen, span, upward, downward, path_vectors, turns_at, second_node, first_node}
 use Rattle.monotone.proofs.Decision.{decide}
 use Rattle.monotone.proofs.Decision.{decide_says}

@@ -19,8 +19,8 @@ use Rattle.laws.specs.Search.{Refusal, Outcome}
 use Rattle.table.specs.declared.Limits.{Limits}
 use Rattle.slopes.specs.declared.Rule.{Rule}
 use Rattle.drawing.specs.CallLaws.{settled}
-use Rattle.drawing.specs.declared.Framed.{Framed}
-use Rattle.drawing.specs.declared.Framed.TheVariants.{Frame, Refused}
+use Rattle.drawing.specs.Framed.{Framed}
+use Rattle.drawing.specs.Framed.{Frame, Refused}
 use Rattle.drawing.specs.Drawing.{Sheet, sheet_of, frame, redrawn}
 use Rattle.drawing.specs.SheetLaws.{Sound, held_set}
 use Rattle.stretching.specs.Calls.{Untouched, Examined}

@@ -11,8 +11,8 @@ use Rattle.table.specs.Validity.{Validity}
 use Rattle.table.specs.Validity.{Accepted, Refused}
 use Rattle.table.specs.Parts.{fault, no_fault}
 use Rattle.slopes.specs.declared.Rule.{Rule}
-use Rattle.drawing.specs.declared.Framed.{Framed}
-use Rattle.drawing.specs.declared.Framed.TheVariants as framed
+use Rattle.drawing.specs.Framed.{Framed}
+use Rattle.drawing.specs.Framed as framed
 use Rattle.drawing.specs.Drawing.{Sheet, sheet_of, frame, OnSheet}
 use Rattle.drawing.specs.Parts.{Framable, FramesFit, framable}
 use Rattle.stretching.specs.Calls.{Examined}

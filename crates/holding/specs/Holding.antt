@@ -7,7 +7,7 @@ use Rattle.std.specs.Prelude.{Bool, cond, List, ℕ, set}
 use Rattle.laws.specs.Search.{Outcome}
 use Rattle.table.specs.declared.Limits.{Limits}
 use Rattle.slopes.specs.declared.Rule.{Rule}
-use Rattle.drawing.specs.declared.Framed.{Framed}
+use Rattle.drawing.specs.Framed.{Framed}
 use Rattle.drawing.specs.Drawing.{Sheet, sheet_of, redrawn}
 use Rattle.stretching.specs.Stretching.{lot_fault}
 

@@ -4,13 +4,15 @@
 ghost use Rattle.std.specs.Prelude.{◌≡◌, ◌<◌, length, set};
 ghost use Rattle.table.specs.Table.{large};
 ghost use Rattle.drawing.specs.Drawing.{sheet, Does, to_read, to_write};
+ghost use Rattle.drawing.specs.Framed.{framed};
 ghost use Rattle.drawing.specs.Parts.{FramesFit};
 ghost use Rattle.holding.specs.Holding.{entry, hold};
 
-use drawing::{Framed, frame_of};
+use drawing::{Frame, frame_of};
+use faults::Refusal;
 use slopes::Rule;
 use stretching::examine;
-use table::{Limits, Validity, large_limits, put};
+use table::{Limits, large_limits, put};
 
 // Sets or clears the entry of v.
 fn mark(held: &mut [u32], v: usize, on: bool)
@@ -37,20 +39,15 @@ pub fn hold_within(
     work: &mut [u32],
     lot: u32,
     on: bool,
-) -> Framed
+) -> Result<Frame, Refusal>
     requires { FramesFit limits }
     ensures { Does limits (to_read parent) (to_read rank)
         (sheet (to_read times) (to_read x) (to_read y) (to_write held)) (to_write work)
-        (λ P R s m. hold limits P R rule s m lot on) result }
+        (λ P R s m. hold limits P R rule s m lot on) (framed result) }
 {
-    let verdict = examine(limits, rule, parent, rank, times, x, y, held, work, lot);
-    match verdict {
-        Validity::Refused(k, v) => Framed::Refused(k, v),
-        Validity::Accepted => {
-            mark(held, lot as usize, on);
-            frame_of(x, y)
-        }
-    }
+    examine(limits, rule, parent, rank, times, x, y, held, work, lot)?;
+    mark(held, lot as usize, on);
+    Ok(frame_of(x, y))
 }
 
 // Holds the edge of `lot`, so that it keeps its length, or frees it, and returns the frame; on a refusal the sheet
@@ -66,10 +63,10 @@ pub fn hold(
     work: &mut [u32],
     lot: u32,
     on: bool,
-) -> Framed
+) -> Result<Frame, Refusal>
     ensures { Does large (to_read parent) (to_read rank)
         (sheet (to_read times) (to_read x) (to_read y) (to_write held)) (to_write work)
-        (λ P R s m. hold large P R rule s m lot on) result }
+        (λ P R s m. hold large P R rule s m lot on) (framed result) }
 {
     let limits = large_limits();
     hold_within(limits, rule, parent, rank, times, x, y, held, work, lot, on)

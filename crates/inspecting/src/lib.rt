@@ -3,14 +3,16 @@
 
 ghost use Rattle.std.specs.Prelude.{true, ◌≡◌, ◌+◌, ◌*◌, ◌^◌, ◌≤◌, ◌<◌, min, length};
 ghost use Rattle.laws.specs.Search.{least};
+ghost use Rattle.table.specs.Validity.{valid};
 ghost use Rattle.slopes.specs.Slopes.{edge};
 ghost use Rattle.drawing.specs.Drawing.{lent, node_fits, drawing, sheet, to_read};
 ghost use Rattle.drawing.specs.Parts.{Sized};
 ghost use Rattle.inspecting.specs.Parts.{placed_from, root_fits, misfit, AllFit, misheld, Inspecting};
 
 use drawing::prepare;
+use faults::{Fault, Refusal};
 use slopes::{Rule, Slope, bordered_at, edge_slope, slope_before};
-use table::{Limits, Validity, get, node_at};
+use table::{Limits, get, node_at};
 
 // Whether v is at its parent's place p and `step` more, and within the limit.
 fn placed(limit: usize, places: &[u32], p: usize, v: usize, step: usize) -> bool
@@ -207,22 +209,17 @@ pub fn inspect(
     y: &[u32],
     held: &[u32],
     work: &mut [u32],
-) -> Validity
+) -> Result<(), Refusal>
     ensures { Inspecting limits parent.now rank.now rule
-        (sheet (to_read times) (to_read x) (to_read y) (to_read held)).entry work.old work.new result }
+        (sheet (to_read times) (to_read x) (to_read y) (to_read held)).entry work.old work.new (valid result) }
 {
     let n = parent.len();
     let place = limits.place as usize;
-    let valid = prepare(limits, parent, rank, times, x, y, held, work);
-    match valid {
-        Validity::Refused(k, v) => Validity::Refused(k, v),
-        Validity::Accepted => {
-            let u = first_misfit(place, rule, parent, rank, times, x, y, work);
-            let v = smaller(u, first_misheld(held));
-            if v < n {
-                return Validity::Refused(8, v as u32);
-            }
-            Validity::Accepted
-        }
+    prepare(limits, parent, rank, times, x, y, held, work)?;
+    let u = first_misfit(place, rule, parent, rank, times, x, y, work);
+    let v = smaller(u, first_misheld(held));
+    if v < n {
+        return Err(Fault::NoSheet.at(v));
     }
+    Ok(())
 }

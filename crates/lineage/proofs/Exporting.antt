@@ -11,13 +11,13 @@ use Rattle.laws.specs.Refusals.{or_else_none}
 use Rattle.laws.specs.Search.{Refusal, ◌or_else◌, Outcome}
 use Rattle.table.specs.Acceptance.{shaped}
 use Rattle.table.specs.Table.{large, table_fault, Called}
-use Rattle.treefile.specs.declared.Saved.{Saved}
+use Rattle.treefile.specs.Saved.{Saved}
 use Rattle.treefile.specs.TreeFile.{Written, saved, write_tree, Wrote}
 use Rattle.slopes.specs.declared.Rule.{Rule}
 use Rattle.drawing.specs.Drawing.{Sheet}
 use Rattle.arranging.specs.Arranging.{lists_fault, lengthen_each}
-use Rattle.arranging.specs.declared.Arranged.{Arranged}
-use Rattle.arranging.specs.declared.Arranged.TheVariants.{Frame, Refused}
+use Rattle.arranging.specs.Arranged.{Arranged}
+use Rattle.arranging.specs.Arranged.{Frame, Refused}
 use Rattle.arranging.proofs.EachLaws.{each_place}
 use Rattle.replies.specs.Replies.{Short, Near}
 

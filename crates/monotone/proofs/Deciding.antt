@@ -14,8 +14,8 @@ use Rattle.laws.specs.Tests.{by_eq, by_lt, by_test}
 use Rattle.table.specs.Paths.{step}
 use Rattle.table.specs.Table.{parent, under}
 use Rattle.table.specs.TableLaws.{Tree}
-use Rattle.monotone.specs.declared.Verdict.{Verdict}
-use Rattle.monotone.specs.declared.Verdict.TheVariants.{Monotone}
+use Rattle.monotone.specs.Verdict.{Verdict}
+use Rattle.monotone.specs.Verdict.{Monotone}
 use Rattle.monotone.specs.Monotone.{HasDirection, AllDirected, FirstTurn}
 use Rattle.monotone.specs.MonotoneLaws.{Before}
 use Rattle.monotone.specs.Plane.{HasHalfPlane, cone_open}

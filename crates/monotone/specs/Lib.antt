@@ -1,3 +1,4 @@
+pub mod Verdict
 pub mod Monotone
 pub mod MonotoneLaws
 pub mod Plane

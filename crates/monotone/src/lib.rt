@@ -10,9 +10,13 @@
 
 ghost use Rattle.std.specs.Prelude.{List, ◌≡◌, ℕ, ◌+◌, ◌-◌, ◌*◌, ◌≤◌, ◌<◌, length, get_or, set};
 ghost use Rattle.laws.specs.Regions.{Only};
-ghost use Rattle.laws.specs.Search.{least};
+ghost use Rattle.faults.specs.Numbers.{number};
+ghost use Rattle.laws.specs.Search.{refuse_least};
+ghost use Rattle.table.specs.Acceptance.{validity};
+ghost use Rattle.table.specs.Validity.{valid};
 ghost use Rattle.table.specs.Table.{large, checked, farthest};
 ghost use Rattle.table.specs.Parts.{Zeroed};
+ghost use Rattle.monotone.specs.Verdict.{found, verdict};
 ghost use Rattle.monotone.specs.Monotone.{place_beyond, Checked};
 ghost use Rattle.monotone.specs.Plane.{cross, dot};
 ghost use Rattle.monotone.specs.Parts.{WithEdges, EdgeTurned, Turned, Climbed, Reached, ConeKnown};
@@ -22,14 +26,14 @@ ghost use Rattle.monotone.specs.Cones.{vec, SmallPart, Near, RightMove, part_at,
 ghost use Rattle.monotone.specs.Cones.{Alone, Growing};
 ghost use Rattle.monotone.specs.Cones.{Grown};
 
-use table::{Limits, Validity, both_long, checked_limits, clear, get, number, put, validate};
+use faults::Refusal;
+use table::{Limits, both_long, checked_limits, clear, get, number, put, validate};
 
-// What the check answers: every pair has a direction, the first pair that has none, or a refusal's number and node.
+// What the check finds: every pair has a direction, or the first pair that has none.
 #[derive(Clone, Copy)]
-pub enum Verdict {
+pub enum Finding {
     Monotone,
     Turns(u32, u32),
-    Refused(u32, u32),
 }
 
 // The cone of a path with no edge, and of one that no half plane holds. Any other is the node of the clockwise side
@@ -250,20 +254,20 @@ fn cones(parent: &[u32], work: &mut [u32], u: usize)
 }
 
 // Whether every pair has a direction, or the first pair that has none: the first whose path has no open half plane.
-fn pairs(parent: &[u32], work: &mut [u32]) -> Verdict
+fn pairs(parent: &[u32], work: &mut [u32]) -> Finding
     requires { WithEdges parent.now work.old × ChildrenFirst parent.now work.old }
     ensures { (x y : List ℕ) → DrawnEdges parent.now x y work.old
-        → Found parent.now x y result }
+        → Found parent.now x y (found result) }
 {
     let n = parent.len();
-    let mut answer = Verdict::Monotone;
+    let mut answer = Finding::Monotone;
     let mut u = 0;
     'pairs: while u < n {
         cones(parent, work, u);
         let mut v = u + 1;
         while v < n {
             if get(work, v) == SHUT {
-                answer = Verdict::Turns(u as u32, v as u32);
+                answer = Finding::Turns(u as u32, v as u32);
                 break 'pairs;
             }
             v += 1;
@@ -290,30 +294,25 @@ fn offsets(c: &[u32], parent: &[u32], work: &mut [u32], at: usize)
     }
 }
 
-// The smallest node with refusal 15, or n.
-fn first_beyond(place: u32, x: &[u32], y: &[u32]) -> usize
-    requires { length y.now ≡ length x.now }
-    ensures { result ≡ least (place_beyond place x.now y.now) (length x.now) }
+// Refusal 15, of the smallest node with a place beyond the limit.
+fn test_places(limits: Limits, x: &[u32], y: &[u32]) -> Result<(), Refusal>
+    requires { (length y.now ≡ length x.now) × (length x.now < 2 ^ 32) }
+    ensures { valid result
+        ≡ validity (refuse_least (number limits.far) (length x.now) (place_beyond limits.place x.now y.now)) }
 {
-    let n = x.len();
-    let most = place as usize;
-    let mut v = 0;
-    while v < n {
-        if most < get(x, v) {
-            return v;
+    let most = limits.place as usize;
+    for v in 0..x.len() {
+        if most < get(x, v) || most < get(y, v) {
+            return Err(limits.far.at(v));
         }
-        if most < get(y, v) {
-            return v;
-        }
-        v += 1;
     }
-    n
+    Ok(())
 }
 
 // The check of an accepted table with places within the limit.
-fn judge(parent: &[u32], rank: &[u32], x: &[u32], y: &[u32], work: &mut [u32]) -> Verdict
+fn judge(parent: &[u32], rank: &[u32], x: &[u32], y: &[u32], work: &mut [u32]) -> Finding
     requires { Judged parent.now rank.now x.now y.now work.old }
-    ensures { Found parent.now x.now y.now result }
+    ensures { Found parent.now x.now y.now (found result) }
 {
     let n = parent.len();
     number(parent, rank, work);
@@ -330,30 +329,23 @@ fn check_within(
     x: &[u32],
     y: &[u32],
     work: &mut [u32],
-) -> Verdict
+) -> Result<Finding, Refusal>
     requires { (limits.nodes ≤ large.nodes) × (limits.place ≤ farthest) }
     ensures { Checked limits parent.now rank.now x.now y.now
-        work.old work.new result }
+        work.old work.new (verdict result) }
 {
     let n = parent.len();
     let long = both_long(n, x, y);
-    match validate(limits, parent, rank, long, work) {
-        Validity::Refused(number, node) => Verdict::Refused(number, node),
-        Validity::Accepted => {
-            let v = first_beyond(limits.place, x, y);
-            if v < n {
-                return Verdict::Refused(limits.far, v as u32);
-            }
-            judge(parent, rank, x, y, work)
-        }
-    }
+    validate(limits, parent, rank, long, work)?;
+    test_places(limits, x, y)?;
+    Ok(judge(parent, rank, x, y, work))
 }
 
 // Whether the drawing of a table is monotone: the first pair, by number, whose tree path rises along no direction. The
 // work list is 4n long; refusals 1, 14 and 3 leave it alone.
-pub fn check(parent: &[u32], rank: &[u32], x: &[u32], y: &[u32], work: &mut [u32]) -> Verdict
+pub fn check(parent: &[u32], rank: &[u32], x: &[u32], y: &[u32], work: &mut [u32]) -> Result<Finding, Refusal>
     ensures { Checked checked parent.now rank.now x.now y.now
-        work.old work.new result }
+        work.old work.new (verdict result) }
 {
     let limits = checked_limits();
     check_within(limits, parent, rank, x, y, work)

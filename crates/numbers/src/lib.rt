@@ -1,10 +1,12 @@
 // The post numbers under each node (document 02, request 107).
 #![tactic(auto)]
 
+ghost use Rattle.table.specs.Counted.{counted};
 ghost use Rattle.table.specs.Table.{large};
 ghost use Rattle.numbers.specs.PostNumbers.{spans, Spanned};
 
-use table::{Counted, Validity, both_long, copy_out, large_limits, prepare};
+use faults::Refusal;
+use table::{both_long, copy_out, large_limits, prepare};
 
 // Fills the lists with the first and the last post number in each node's subtree; refuses a table to which one of 1 to
 // 7 applies, and then leaves both as they were. The work list takes the numbering; refusals 1, 2 and 3 leave it alone.
@@ -14,19 +16,15 @@ pub fn post_numbers(
     first: &mut [u32],
     last: &mut [u32],
     work: &mut [u32],
-) -> Counted
+) -> Result<u32, Refusal>
     ensures { Spanned large parent.now rank.now
         (spans first.old last.old) work.old
-        (spans first.new last.new) work.new result }
+        (spans first.new last.new) work.new (counted result) }
 {
     let n = parent.len();
     let long = both_long(n, first, last);
-    match prepare(large_limits(), parent, rank, long, work) {
-        Validity::Refused(k, v) => Counted::Refused(k, v),
-        Validity::Accepted => {
-            copy_out(work, 2 * n, first);
-            copy_out(work, 0, last);
-            Counted::Nodes(n as u32)
-        }
-    }
+    prepare(large_limits(), parent, rank, long, work)?;
+    copy_out(work, 2 * n, first);
+    copy_out(work, 0, last);
+    Ok(n as u32)
 }

@@ -15,14 +15,14 @@ use Rattle.laws.specs.Tests.{both, both_is}
 use Rattle.table.specs.declared.Limits.{Limits}
 use Rattle.table.specs.Table.{shape_fault}
 use Rattle.slopes.specs.declared.Rule.{Rule}
-use Rattle.drawing.specs.declared.Framed.{Framed}
+use Rattle.drawing.specs.Framed.{Framed}
 use Rattle.drawing.specs.Drawing.{Sheet, lengths_fit, frame, accepted, sheet_fault}
 use Rattle.stretching.specs.Calls.{Untouched, Stretching}
 use Rattle.stretching.proofs.CallLaws.{lengthen_does, accepted_stretches}
 use Rattle.stretching.specs.Stretching.{lengthen}
 use Rattle.arranging.specs.Arranging.{lists_fault, each_fault, whole, in_turn, lengthen_each}
-use Rattle.arranging.specs.declared.Arranged.{Arranged}
-use Rattle.arranging.specs.declared.Arranged.TheVariants.{Frame, Refused}
+use Rattle.arranging.specs.Arranged.{Arranged}
+use Rattle.arranging.specs.Arranged.{Frame, Refused}
 use Rattle.arranging.proofs.EachLaws.{refused_no_frame, turn_goes_on, turn_stops, each_turns}
 use Rattle.reordering.specs.Reordering.{made, all_accepted, after}
 use Rattle.reordering.proofs.ReorderLaws.{reordered}

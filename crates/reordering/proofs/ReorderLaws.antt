@@ -29,7 +29,7 @@ use Rattle.table.specs.TableLaws.{Tree}
 use Rattle.slopes.specs.declared.Rule.{Rule}
 use Rattle.slopes.specs.declared.Slope.{Slope}
 use Rattle.slopes.specs.Slopes.{across_of, up_of, edge}
-use Rattle.drawing.specs.declared.Framed.{Framed}
+use Rattle.drawing.specs.Framed.{Framed}
 use Rattle.drawing.specs.Drawing.{Drawing, Sheet, lengths_fit, fresh_sheet, frame, accepted, redrawn, layout}
 use Rattle.drawing.specs.DrawingLaws.{Coordinate, Drawn, drawn_one}
 use Rattle.drawing.specs.PathLaws.{adds_le}

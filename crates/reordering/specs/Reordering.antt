@@ -13,7 +13,7 @@ use mathlib.Core.List.{List, [], ◌∷◌, Perm}
 use Rattle.laws.specs.Search.{Outcome}
 use Rattle.table.specs.declared.Limits.{Limits}
 use Rattle.slopes.specs.declared.Rule.{Rule}
-use Rattle.drawing.specs.declared.Framed.{Framed}
+use Rattle.drawing.specs.Framed.{Framed}
 use Rattle.drawing.specs.Drawing.{Sheet, frame, accepted, layout}
 use Rattle.stretching.specs.Stretching.{lengthen}
 

@@ -11,20 +11,20 @@
 use Rattle.std.specs.Prelude.{List, [], ◌∷◌, ℕ, ◌^◌, ◌<◌, Float, ℤ, pos}
 use Rattle.table.specs.Counted.{Counted}
 use Rattle.table.specs.Counted as counted
-use Rattle.drawing.specs.declared.Framed.{Framed}
-use Rattle.drawing.specs.declared.Framed.TheVariants as framed
-use Rattle.arranging.specs.declared.Arranged.{Arranged}
-use Rattle.arranging.specs.declared.Arranged.TheVariants as arranged
-use Rattle.aligning.specs.declared.Aligned.{Aligned}
-use Rattle.aligning.specs.declared.Aligned.TheVariants as aligned
-use Rattle.direction.specs.declared.Heading.{Heading}
-use Rattle.direction.specs.declared.Heading.TheVariants as heading
-use Rattle.monotone.specs.declared.Verdict.{Verdict}
-use Rattle.monotone.specs.declared.Verdict.TheVariants as verdict
-use Rattle.treefile.specs.declared.Saved.{Saved}
-use Rattle.treefile.specs.declared.Saved.TheVariants as saved
-use Rattle.window.specs.declared.View.{View}
-use Rattle.window.specs.declared.View.TheVariants as view
+use Rattle.drawing.specs.Framed.{Framed}
+use Rattle.drawing.specs.Framed as framed
+use Rattle.arranging.specs.Arranged.{Arranged}
+use Rattle.arranging.specs.Arranged as arranged
+use Rattle.aligning.specs.Aligned.{Aligned}
+use Rattle.aligning.specs.Aligned as aligned
+use Rattle.direction.specs.Heading.{Heading}
+use Rattle.direction.specs.Heading as heading
+use Rattle.monotone.specs.Verdict.{Verdict}
+use Rattle.monotone.specs.Verdict as verdict
+use Rattle.treefile.specs.Saved.{Saved}
+use Rattle.treefile.specs.Saved as saved
+use Rattle.window.specs.View.{View}
+use Rattle.window.specs.View as view
 
 abbrev pub three : ℤ → ℤ → ℤ → List ℤ
 three a b c = a ∷ b ∷ c ∷ []

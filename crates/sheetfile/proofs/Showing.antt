@@ -13,10 +13,10 @@ use Rattle.table.specs.declared.Limits.{Limits}
 use Rattle.table.specs.Table.{large, shape_fault, tree_fault, table_fault, printed}
 use Rattle.slopes.specs.declared.Rule.{Rule}
 use Rattle.slopes.specs.declared.Rule.TheVariants.{Steep, Balanced}
-use Rattle.drawing.specs.declared.Framed.{Framed}
+use Rattle.drawing.specs.Framed.{Framed}
 use Rattle.laws.specs.Refusals.{settle-none}
 use Rattle.laws.specs.Search.{Outcome}
-use Rattle.drawing.specs.declared.Framed.TheVariants as framed
+use Rattle.drawing.specs.Framed as framed
 use Rattle.drawing.specs.Drawing as drawing
 use Rattle.drawing.specs.Drawing.{Sheet, lengths_fit, lent, fresh, fresh_places, fresh_sheet, frame, layout}
 use Rattle.drawing.specs.SheetLaws.{Long, long_fits}

@@ -19,8 +19,8 @@ use Rattle.table.specs.Table.{shape_fault, tree_fault, table_fault, large, small
 use Rattle.slopes.specs.declared.Rule.{Rule}
 use Rattle.slopes.specs.declared.Slope.{Slope}
 use Rattle.slopes.specs.Slopes.{across_of, up_of}
-use Rattle.drawing.specs.declared.Framed.{Framed}
-use Rattle.drawing.specs.declared.Framed.TheVariants.{Refused}
+use Rattle.drawing.specs.Framed.{Framed}
+use Rattle.drawing.specs.Framed.{Refused}
 use Rattle.drawing.specs.Drawing.{Sheet, sheet_of, lengths_fit, fresh_sheet, frame, placed, node_fits, lot_fits}
 use Rattle.drawing.specs.Drawing.{sheet_fault, redrawn, layout}
 use Rattle.stretching.proofs.CallLaws.{beyond_no, no_beyond}

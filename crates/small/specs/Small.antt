@@ -12,8 +12,8 @@ use Rattle.faults.specs.Numbers.{number}
 use Rattle.laws.specs.Search.{Outcome}
 use Rattle.table.specs.declared.Limits.{Limits}
 use Rattle.slopes.specs.declared.Rule.{Rule}
-use Rattle.drawing.specs.declared.Framed.{Framed}
-use Rattle.drawing.specs.declared.Framed.TheVariants.{Refused}
+use Rattle.drawing.specs.Framed.{Framed}
+use Rattle.drawing.specs.Framed.{Refused}
 use Rattle.drawing.specs.Drawing.{Sheet, layout}
 use Rattle.stretching.specs.Stretching.{lengthen, shorten}
 use Rattle.holding.specs.Holding.{hold}

@@ -4,9 +4,11 @@
 
 ghost use Rattle.table.specs.Table.{small};
 ghost use Rattle.drawing.specs.Drawing.{layout, sheet, Does, to_read, to_write};
+ghost use Rattle.drawing.specs.Framed.{framed};
 ghost use Rattle.stretching.specs.Stretching.{lengthen, shorten};
 
-use drawing::{Framed, layout_within};
+use drawing::{Frame, layout_within};
+use faults::Refusal;
 use slopes::Rule;
 use stretching::{lengthen_within, shorten_within};
 use table::small_limits;
@@ -21,10 +23,10 @@ pub fn layout_small(
     y: &mut [u32],
     held: &mut [u32],
     work: &mut [u32],
-) -> Framed
+) -> Result<Frame, Refusal>
     ensures { Does small (to_read parent) (to_read rank)
         (sheet (to_write times) (to_write x) (to_write y) (to_write held))
-        (to_write work) (λ P R s m. layout small P R rule s m) result }
+        (to_write work) (λ P R s m. layout small P R rule s m) (framed result) }
 {
     let cap = small_limits();
     layout_within(cap, rule, parent, rank, times, x, y, held, work)
@@ -42,10 +44,10 @@ pub fn lengthen_small(
     work: &mut [u32],
     lot: u32,
     count: u32,
-) -> Framed
+) -> Result<Frame, Refusal>
     ensures { Does small (to_read parent) (to_read rank)
         (sheet (to_write times) (to_write x) (to_write y) (to_read held)) (to_write work)
-        (λ P R s m. lengthen small P R rule s m lot count) result }
+        (λ P R s m. lengthen small P R rule s m lot count) (framed result) }
 {
     let cap = small_limits();
     lengthen_within(cap, rule, parent, rank, times, x, y, held, work, lot, count)
@@ -63,10 +65,10 @@ pub fn shorten_small(
     work: &mut [u32],
     lot: u32,
     count: u32,
-) -> Framed
+) -> Result<Frame, Refusal>
     ensures { Does small (to_read parent) (to_read rank)
         (sheet (to_write times) (to_write x) (to_write y) (to_read held)) (to_write work)
-        (λ P R s m. shorten small P R rule s m lot count) result }
+        (λ P R s m. shorten small P R rule s m lot count) (framed result) }
 {
     let cap = small_limits();
     shorten_within(cap, rule, parent, rank, times, x, y, held, work, lot, count)

@@ -25,7 +25,7 @@ use Rattle.laws.specs.SearchLaws.{least-found, least_is, least-none}
 use Rattle.laws.specs.Tests.{differ, neither, neither_is, either_first, either_second}
 use Rattle.table.specs.declared.Limits.{Limits}
 use Rattle.slopes.specs.declared.Rule.{Rule}
-use Rattle.drawing.specs.declared.Framed.TheVariants.{Frame, Refused}
+use Rattle.drawing.specs.Framed.{Frame, Refused}
 use Rattle.drawing.specs.Drawing.{Drawing, Sheet, sheet_of, frame, accepted, sheet_fault, redrawn}
 use Rattle.drawing.specs.DrawingLaws.{Drawn}
 use Rattle.drawing.specs.CallLaws.{settled, inspected, inspected_again}

@@ -21,8 +21,8 @@ use Rattle.table.specs.Table.{parent, under, all_long, table_fault}
 use Rattle.table.specs.TableLaws.{Tree}
 use Rattle.slopes.specs.declared.Rule.{Rule}
 use Rattle.slopes.specs.Slopes.{across_of, up_of, edge}
-use Rattle.drawing.specs.declared.Framed.{Framed}
-use Rattle.drawing.specs.declared.Framed.TheVariants.{Frame, Refused}
+use Rattle.drawing.specs.Framed.{Framed}
+use Rattle.drawing.specs.Framed.{Frame, Refused}
 use Rattle.drawing.specs.Drawing.{Drawing, Sheet, sheet_of, lengths_fit, node_fits, lot_fits, sheet_fault, redrawn}
 use Rattle.drawing.specs.SheetLaws.{Held, held_fits_lem}
 use Rattle.stretching.proofs.CallLaws.{lengthen-accepted, shorten-accepted}

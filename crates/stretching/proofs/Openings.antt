@@ -11,7 +11,7 @@ use Rattle.table.specs.Validity.{Accepted, Refused}
 use Rattle.table.specs.Parts.{no_fault}
 use Rattle.slopes.specs.declared.Rule.{Rule}
 use Rattle.drawing.specs.CallLaws.{Inspected, inspected, inspected_again}
-use Rattle.drawing.specs.declared.Framed.{Framed}
+use Rattle.drawing.specs.Framed.{Framed}
 use Rattle.drawing.specs.Drawing.{Sheet}
 use Rattle.drawing.specs.SheetLaws.{Sound}
 use Rattle.inspecting.specs.Parts.{Inspecting}

@@ -20,8 +20,8 @@ use Rattle.slopes.specs.declared.Rule.{Rule}
 use Rattle.slopes.specs.declared.Slope.{Slope}
 use Rattle.slopes.specs.Slopes.{across_of, up_of, edge}
 use Rattle.drawing.specs.CallLaws.{inspected_again}
-use Rattle.drawing.specs.declared.Framed.{Framed}
-use Rattle.drawing.specs.declared.Framed.TheVariants as framed
+use Rattle.drawing.specs.Framed.{Framed}
+use Rattle.drawing.specs.Framed as framed
 use Rattle.drawing.specs.Drawing.{Drawing, lent, Sheet, sheet_of, frame, OnSheet}
 use Rattle.drawing.specs.DrawingLaws.{Coordinate, Drawn, drawn_times, same_drawing}
 use Rattle.drawing.specs.Parts.{FramesFit}

@@ -10,8 +10,8 @@ use Rattle.std.proofs.Math.ListN.{length, get_or}
 use Rattle.laws.specs.Search.{Outcome}
 use Rattle.table.specs.declared.Limits.{Limits}
 use Rattle.slopes.specs.declared.Rule.{Rule}
-use Rattle.drawing.specs.declared.Framed.{Framed}
-use Rattle.drawing.specs.declared.Framed.TheVariants.{Refused}
+use Rattle.drawing.specs.Framed.{Framed}
+use Rattle.drawing.specs.Framed.{Refused}
 use Rattle.drawing.specs.Drawing.{Drawing, Sheet, frame}
 use Rattle.drawing.specs.CallLaws.{Inspected}
 use Rattle.drawing.specs.SheetLaws.{Sound}

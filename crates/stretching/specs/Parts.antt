@@ -21,8 +21,8 @@ use Rattle.table.specs.Table.{under}
 use Rattle.slopes.specs.declared.Rule.{Rule}
 use Rattle.slopes.specs.Slopes.{across_of, up_of, edge}
 use Rattle.drawing.specs.CallLaws.{Inspected}
-use Rattle.drawing.specs.declared.Framed.{Framed}
-use Rattle.drawing.specs.declared.Framed.TheVariants as framed
+use Rattle.drawing.specs.Framed.{Framed}
+use Rattle.drawing.specs.Framed as framed
 use Rattle.drawing.specs.Drawing.{Drawing, Sheet, lengths_fit, frame}
 use Rattle.drawing.specs.Parts.{SizedSheet}
 use Rattle.stretching.specs.Stretching.{edge_fault, lot_fault, stretch_fault}

@@ -17,7 +17,7 @@ use Rattle.table.specs.declared.Limits.{Limits}
 use Rattle.table.specs.Table.{under}
 use Rattle.slopes.specs.declared.Rule.{Rule}
 use Rattle.slopes.specs.Slopes.{across_of, up_of, edge}
-use Rattle.drawing.specs.declared.Framed.{Framed}
+use Rattle.drawing.specs.Framed.{Framed}
 use Rattle.drawing.specs.Drawing.{Drawing, lent, Sheet, sheet_of, sheet_fault, redrawn}
 
 ------------------------------------------------------------------------

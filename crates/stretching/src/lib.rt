@@ -7,8 +7,10 @@ ghost use Rattle.std.specs.Prelude.{true, false, ◌≡◌, ◌+◌, ◌^◌, �
 ghost use Rattle.table.specs.Acceptance.{validity};
 ghost use Rattle.table.specs.Numbering.{NumberedTree};
 ghost use Rattle.table.specs.Table.{large};
+ghost use Rattle.table.specs.Validity.{valid};
 ghost use Rattle.slopes.specs.Slopes.{edge};
 ghost use Rattle.drawing.specs.Drawing.{lent, sheet_of, drawing, sheet, Does, to_read, to_write};
+ghost use Rattle.drawing.specs.Framed.{framed};
 ghost use Rattle.drawing.specs.DrawingLaws.{Drawn};
 ghost use Rattle.drawing.specs.Parts.{FramesFit};
 ghost use Rattle.stretching.specs.Stretching.{moved, stretched, beyond, edge_fault, lengthen, shorten};
@@ -16,10 +18,11 @@ ghost use Rattle.stretching.specs.Stretches.{longer};
 ghost use Rattle.stretching.specs.Parts.{by, free_fault, Examining, Unheld, Passes, Movable, Stretchable, Opened};
 ghost use Rattle.stretching.specs.Parts.{framing};
 
-use drawing::{Framed, frame_of};
+use drawing::{Frame, frame_of};
+use faults::{Fault, Refusal};
 use inspecting::{inspect, product};
 use slopes::{Rule, Slope, edge_slope};
-use table::{Limits, Validity, get, large_limits, put};
+use table::{Limits, get, large_limits, put};
 
 // d more or d less than a.
 fn changed(a: usize, d: usize, longer: bool) -> usize
@@ -30,32 +33,28 @@ fn changed(a: usize, d: usize, longer: bool) -> usize
 }
 
 // Refusals 9 and 10, of n nodes: whether `lot` has an edge.
-fn test_edge(n: usize, lot: u32) -> Validity
-    ensures { result ≡ validity (edge_fault n lot) }
+fn test_edge(n: usize, lot: u32) -> Result<(), Refusal>
+    ensures { valid result ≡ validity (edge_fault n lot) }
 {
     if n <= lot as usize {
-        return Validity::Refused(9, 0);
+        return Err(Fault::NoSuchLot.at(0));
     }
     if lot == 0 {
-        return Validity::Refused(10, 0);
+        return Err(Fault::NoEdge.at(0));
     }
-    Validity::Accepted
+    Ok(())
 }
 
 // Refusals 9, 10 and 22: whether `lot` has an edge that is not held.
-fn test_free(held: &[u32], lot: u32) -> Validity
-    ensures { result ≡ validity (free_fault held.now lot) }
+fn test_free(held: &[u32], lot: u32) -> Result<(), Refusal>
+    ensures { valid result ≡ validity (free_fault held.now lot) }
 {
-    let edge = test_edge(held.len(), lot);
-    match edge {
-        Validity::Refused(k, v) => Validity::Refused(k, v),
-        Validity::Accepted => {
-            if get(held, lot as usize) == 1 {
-                return Validity::Refused(22, lot);
-            }
-            Validity::Accepted
-        }
+    test_edge(held.len(), lot)?;
+    let v = lot as usize;
+    if get(held, v) == 1 {
+        return Err(Fault::Held.at(v));
     }
+    Ok(())
 }
 
 // Refusals 1 to 10 of a call on the edge of `lot`; an accepted table is numbered.
@@ -70,15 +69,12 @@ pub fn examine(
     held: &[u32],
     work: &mut [u32],
     lot: u32,
-) -> Validity
+) -> Result<(), Refusal>
     ensures { Examining limits parent.now rank.now rule
-        (sheet (to_read times) (to_read x) (to_read y) (to_read held)).entry work.old lot work.new result }
+        (sheet (to_read times) (to_read x) (to_read y) (to_read held)).entry work.old lot work.new (valid result) }
 {
-    let valid = inspect(limits, rule, parent, rank, times, x, y, held, work);
-    match valid {
-        Validity::Refused(k, v) => Validity::Refused(k, v),
-        Validity::Accepted => test_edge(parent.len(), lot),
-    }
+    inspect(limits, rule, parent, rank, times, x, y, held, work)?;
+    test_edge(parent.len(), lot)
 }
 
 // Refusals 1 to 10, then 22, of a call that stretches the edge of `lot`; an accepted table is numbered.
@@ -93,15 +89,12 @@ fn examine_free(
     held: &[u32],
     work: &mut [u32],
     lot: u32,
-) -> Validity
+) -> Result<(), Refusal>
     ensures { Unheld limits parent.now rank.now rule
-        (sheet (to_read times) (to_read x) (to_read y) (to_read held)).entry work.old lot work.new result }
+        (sheet (to_read times) (to_read x) (to_read y) (to_read held)).entry work.old lot work.new (valid result) }
 {
-    let valid = inspect(limits, rule, parent, rank, times, x, y, held, work);
-    match valid {
-        Validity::Refused(k, v) => Validity::Refused(k, v),
-        Validity::Accepted => test_free(held, lot),
-    }
+    inspect(limits, rule, parent, rank, times, x, y, held, work)?;
+    test_free(held, lot)
 }
 
 // Whether some place of v's subtree would be beyond the limit when it is moved on by d.
@@ -224,31 +217,26 @@ pub fn lengthen_edge(
     work: &[u32],
     lot: u32,
     count: u32,
-) -> Validity
+) -> Result<(), Refusal>
     requires { FramesFit limits × Opened limits parent.now rank.now rule
         (sheet_of (lent times.old x.old y.old) held.now) work.now }
-    ensures { framing result (sheet (to_write times) (to_write x) (to_write y) (to_read held)).exit
+    ensures { framing (valid result) (sheet (to_write times) (to_write x) (to_write y) (to_read held)).exit
         ≡ lengthen limits parent.now rank.now rule
         (sheet (to_write times) (to_write x) (to_write y) (to_read held)).entry
         (length work.now) lot count }
 {
     let place = limits.place as usize;
-    let free = test_free(held, lot);
-    match free {
-        Validity::Refused(k, v) => Validity::Refused(k, v),
-        Validity::Accepted => {
-            let v = lot as usize;
-            let slope = edge_slope(rule, parent, rank, work, v);
-            let far = too_far(
-                place, rule, parent, rank, times, x, y, work, v, slope, count,
-            );
-            if far {
-                return Validity::Refused(limits.far, lot);
-            }
-            stretch(rule, parent, rank, times, x, y, work, v, slope, count, true);
-            Validity::Accepted
-        }
+    test_free(held, lot)?;
+    let v = lot as usize;
+    let slope = edge_slope(rule, parent, rank, work, v);
+    let far = too_far(
+        place, rule, parent, rank, times, x, y, work, v, slope, count,
+    );
+    if far {
+        return Err(limits.far.at(v));
     }
+    stretch(rule, parent, rank, times, x, y, work, v, slope, count, true);
+    Ok(())
 }
 
 // Lengthen at any limits whose frames are numbers of 32 bits.
@@ -264,25 +252,17 @@ pub fn lengthen_within(
     work: &mut [u32],
     lot: u32,
     count: u32,
-) -> Framed
+) -> Result<Frame, Refusal>
     requires { FramesFit limits }
     ensures { Does limits (to_read parent) (to_read rank)
         (sheet (to_write times) (to_write x) (to_write y) (to_read held)) (to_write work)
-        (λ P R s m. lengthen limits P R rule s m lot count) result }
+        (λ P R s m. lengthen limits P R rule s m lot count) (framed result) }
 {
-    let valid = inspect(limits, rule, parent, rank, times, x, y, held, work);
-    match valid {
-        Validity::Refused(k, v) => Framed::Refused(k, v),
-        Validity::Accepted => {
-            let verdict = lengthen_edge(
-                limits, rule, parent, rank, times, x, y, held, work, lot, count,
-            );
-            match verdict {
-                Validity::Refused(k, v) => Framed::Refused(k, v),
-                Validity::Accepted => frame_of(x, y),
-            }
-        }
-    }
+    inspect(limits, rule, parent, rank, times, x, y, held, work)?;
+    lengthen_edge(
+        limits, rule, parent, rank, times, x, y, held, work, lot, count,
+    )?;
+    Ok(frame_of(x, y))
 }
 
 // Shorten at any limits whose frames are numbers of 32 bits.
@@ -298,27 +278,22 @@ pub fn shorten_within(
     work: &mut [u32],
     lot: u32,
     count: u32,
-) -> Framed
+) -> Result<Frame, Refusal>
     requires { FramesFit limits }
     ensures { Does limits (to_read parent) (to_read rank)
         (sheet (to_write times) (to_write x) (to_write y) (to_read held)) (to_write work)
-        (λ P R s m. shorten limits P R rule s m lot count) result }
+        (λ P R s m. shorten limits P R rule s m lot count) (framed result) }
 {
-    let verdict = examine_free(limits, rule, parent, rank, times, x, y, held, work, lot);
-    match verdict {
-        Validity::Refused(k, v) => Framed::Refused(k, v),
-        Validity::Accepted => {
-            let v = lot as usize;
-            if get(times, v) <= count as usize {
-                return Framed::Refused(12, lot);
-            }
-            let slope = edge_slope(rule, parent, rank, work, v);
-            stretch(
-                rule, parent, rank, times, x, y, work, v, slope, count, false,
-            );
-            frame_of(x, y)
-        }
+    examine_free(limits, rule, parent, rank, times, x, y, held, work, lot)?;
+    let v = lot as usize;
+    if get(times, v) <= count as usize {
+        return Err(Fault::CountTooLarge.at(v));
     }
+    let slope = edge_slope(rule, parent, rank, work, v);
+    stretch(
+        rule, parent, rank, times, x, y, work, v, slope, count, false,
+    );
+    Ok(frame_of(x, y))
 }
 
 // Makes the edge of `lot` longer by `count` times its slope, moves the lot's subtree along and returns the frame; on a
@@ -334,10 +309,10 @@ pub fn lengthen(
     work: &mut [u32],
     lot: u32,
     count: u32,
-) -> Framed
+) -> Result<Frame, Refusal>
     ensures { Does large (to_read parent) (to_read rank)
         (sheet (to_write times) (to_write x) (to_write y) (to_read held)) (to_write work)
-        (λ P R s m. lengthen large P R rule s m lot count) result }
+        (λ P R s m. lengthen large P R rule s m lot count) (framed result) }
 {
     let limits = large_limits();
     lengthen_within(
@@ -358,10 +333,10 @@ pub fn shorten(
     work: &mut [u32],
     lot: u32,
     count: u32,
-) -> Framed
+) -> Result<Frame, Refusal>
     ensures { Does large (to_read parent) (to_read rank)
         (sheet (to_write times) (to_write x) (to_write y) (to_read held)) (to_write work)
-        (λ P R s m. shorten large P R rule s m lot count) result }
+        (λ P R s m. shorten large P R rule s m lot count) (framed result) }
 {
     let limits = large_limits();
     shorten_within(

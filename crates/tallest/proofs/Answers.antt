@@ -13,8 +13,8 @@ use Rattle.table.specs.Acceptance.{two_long}
 use Rattle.table.specs.declared.Limits.{Limits}
 use Rattle.table.specs.Table.{all_long, large}
 use Rattle.slopes.specs.declared.Rule.TheVariants.{Steep}
-use Rattle.drawing.specs.declared.Framed.{Framed}
-use Rattle.drawing.specs.declared.Framed.TheVariants.{Frame, Refused}
+use Rattle.drawing.specs.Framed.{Framed}
+use Rattle.drawing.specs.Framed.{Frame, Refused}
 use Rattle.drawing.specs.FreshLaws.{large_roomy}
 use Rattle.tallest.proofs.ChainLaws.{tallest_height}
 use Rattle.tallest.specs.Tallest.{Table, table_of, chain_of, steep_frame, lent_fault, tallest}

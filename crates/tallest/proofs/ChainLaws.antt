@@ -29,7 +29,7 @@ use Rattle.slopes.specs.declared.Rule.TheVariants.{Steep}
 use Rattle.slopes.specs.declared.Slope.{Slope}
 use Rattle.slopes.proofs.SlopeLaws.{steep_across_sum, steep_up_sum}
 use Rattle.slopes.specs.Slopes.{across_of, up_of, slope_at}
-use Rattle.drawing.specs.declared.Framed.TheVariants.{Frame}
+use Rattle.drawing.specs.Framed.{Frame}
 use Rattle.drawing.specs.Drawing.{path_sum, fresh_places, fresh, largest, frame}
 use Rattle.drawing.specs.DrawingLaws.{largest_above, largest_in}
 use Rattle.drawing.specs.FreshLaws.{step_at, fresh_long, fresh_at, fresh-sum}

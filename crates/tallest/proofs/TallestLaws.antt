@@ -16,8 +16,8 @@ use Rattle.table.specs.declared.Limits.{Limits}
 use Rattle.table.specs.Table.{parent, all_long, table_fault}
 use Rattle.table.specs.TableLaws.{Tree}
 use Rattle.slopes.specs.declared.Rule.TheVariants.{Steep}
-use Rattle.drawing.specs.declared.Framed.{Framed}
-use Rattle.drawing.specs.declared.Framed.TheVariants.{Frame, Refused}
+use Rattle.drawing.specs.Framed.{Framed}
+use Rattle.drawing.specs.Framed.{Frame, Refused}
 use Rattle.drawing.specs.CallLaws.{refused_no_frame}
 use Rattle.drawing.specs.Drawing.{Sheet, lengths_fit, fresh, fresh_sheet, frame, layout}
 use Rattle.tallest.proofs.ChainLaws.{tallest_height, chain_frame, frame-within, tall_chain, chain_long}

@@ -16,8 +16,8 @@ use Rattle.laws.specs.Search.{tabulate, Refusal, refuse, ◌or_else◌, Outcome,
 use Rattle.table.specs.declared.Limits.{Limits}
 use Rattle.table.specs.Table.{children, all_long}
 use Rattle.slopes.specs.declared.Rule.TheVariants.{Steep}
-use Rattle.drawing.specs.declared.Framed.{Framed}
-use Rattle.drawing.specs.declared.Framed.TheVariants.{Refused}
+use Rattle.drawing.specs.Framed.{Framed}
+use Rattle.drawing.specs.Framed.{Refused}
 use Rattle.drawing.specs.Drawing.{fresh, frame, Lent}
 
 pub record Table : Type 0 where

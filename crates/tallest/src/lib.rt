@@ -5,8 +5,10 @@ ghost use Rattle.std.specs.Prelude.{◌≡◌, ◌^◌, ◌<◌, length};
 ghost use Rattle.table.specs.Table.{large};
 ghost use Rattle.tallest.specs.Tallest.{lists, chain_of, Fills};
 ghost use Rattle.drawing.specs.Drawing.{to_write};
+ghost use Rattle.drawing.specs.Framed.{framed};
 
-use drawing::Framed;
+use drawing::Frame;
+use faults::{Fault, Refusal};
 use table::{both_long, clear, large_limits, put};
 
 // Hangs each node from 1 up on the one before it, and the root on itself.
@@ -34,22 +36,23 @@ fn rank_each(rank: &mut [u32])
 // Fills the lists with the table of n nodes whose fresh steep sheet is the tallest, each node v from 1 up with parent
 // v - 1, and returns that sheet's frame; refuses an n of 0 or above 65,536 and lists that are not n long, and then
 // leaves them as they were.
-pub fn tallest(n: u32, parent: &mut [u32], rank: &mut [u32]) -> Framed
-    ensures { Fills large n (lists (to_write parent) (to_write rank)) result }
+pub fn tallest(n: u32, parent: &mut [u32], rank: &mut [u32]) -> Result<Frame, Refusal>
+    ensures { Fills large n (lists (to_write parent) (to_write rank)) (framed result) }
 {
     let limits = large_limits();
     let most = limits.nodes;
     let long = both_long(n as usize, parent, rank);
     if n == 0 {
-        return Framed::Refused(1, 0);
+        return Err(Fault::NoLots.at(0));
     }
     if most < n {
-        return Framed::Refused(limits.many, 0);
+        return Err(limits.many.at(0));
     }
     if !long {
-        return Framed::Refused(3, 0);
+        return Err(Fault::WrongLength.at(0));
     }
     hang_each(parent);
     rank_each(rank);
-    Framed::Frame(n, n * (n - 1) / 2 + 1)
+    let height = n * (n - 1) / 2 + 1;
+    Ok(Frame { width: n, height })
 }

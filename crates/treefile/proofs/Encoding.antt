@@ -19,7 +19,7 @@ use Rattle.table.specs.Validity.{Accepted, Refused}
 use Rattle.table.specs.Table.{table_fault}
 use Rattle.table.specs.Parts.{Validated}
 use Rattle.treefile.specs.Parts.{WordPut, Encoded}
-use Rattle.treefile.specs.declared.Saved.TheVariants.{Bytes, Unsaved}
+use Rattle.treefile.specs.Saved.{Bytes, Unsaved}
 use Rattle.treefile.proofs.FileLaws.{by-four, length_all_bytes, byte_at}
 use Rattle.treefile.specs.TreeFile.{bytes_of, all_bytes, file_of, saved, write_tree, Wrote}
 

@@ -1,2 +1,3 @@
+pub mod Saved
 pub mod TreeFile
 pub mod Parts

@@ -21,8 +21,8 @@ use Rattle.table.specs.Counted.{Counted}
 use Rattle.table.specs.Counted.{Nodes, Refused}
 use Rattle.table.specs.declared.Limits.{Limits}
 use Rattle.table.specs.Table.{shape_fault, tree_fault, table_fault, Called}
-use Rattle.treefile.specs.declared.Saved.{Saved}
-use Rattle.treefile.specs.declared.Saved.TheVariants.{Bytes, Unsaved}
+use Rattle.treefile.specs.Saved.{Saved}
+use Rattle.treefile.specs.Saved.{Bytes, Unsaved}
 
 ------------------------------------------------------------------------
 -- Numbers in 4 bytes

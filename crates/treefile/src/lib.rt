@@ -3,19 +3,15 @@
 
 ghost use Rattle.std.specs.Prelude.{◌≡◌, ◌+◌, ◌*◌, ◌^◌, ◌≤◌, ◌<◌, length, get_or};
 ghost use Rattle.laws.specs.Regions.{Only};
+ghost use Rattle.table.specs.Counted.{counted};
 ghost use Rattle.table.specs.Table.{large};
 ghost use Rattle.table.specs.Parts.{Copied};
 ghost use Rattle.treefile.specs.Parts.{Opened, Tabled, WordPut, Encoded};
+ghost use Rattle.treefile.specs.Saved.{saved};
 ghost use Rattle.treefile.specs.TreeFile.{word_at, words, stated_or_zero, Read, Wrote};
 
-use table::{Counted, Limits, Validity};
-
-// What the writer answers: the number of bytes, or a refusal with its number and node.
-#[derive(Clone, Copy)]
-pub enum Saved {
-    Bytes(usize),
-    Unsaved(u32, u32),
-}
+use faults::{Fault, Refusal};
+use table::Limits;
 
 // A byte as a number.
 fn byte(bytes: &[u8], i: usize) -> usize
@@ -83,24 +79,22 @@ fn load(
     parent: &mut [u32],
     rank: &mut [u32],
     work: &mut [u32],
-) -> Counted
+) -> Result<u32, Refusal>
     requires { Opened limits bytes.now parent.old rank.old work.old }
     ensures { Tabled bytes.now parent.old rank.old parent.new
-        rank.new result }
+        rank.new (counted result) }
 {
     let n = parent.len();
     save(parent, work, 2 * n);
     save(rank, work, 3 * n);
     decode(bytes, 4, parent);
     decode(bytes, 4 + 4 * n, rank);
-    match table::validate(limits, parent, rank, true, work) {
-        Validity::Accepted => Counted::Nodes(n as u32),
-        Validity::Refused(k, v) => {
-            table::copy_out(work, 2 * n, parent);
-            table::copy_out(work, 3 * n, rank);
-            Counted::Refused(k, v)
-        }
+    if let Err(refusal) = table::validate(limits, parent, rank, true, work) {
+        table::copy_out(work, 2 * n, parent);
+        table::copy_out(work, 3 * n, rank);
+        return Err(refusal);
     }
+    Ok(n as u32)
 }
 
 // Reads a tree file at the limits: refusals 16, 1, 2, 17, 3, then 4 to 7 on the file's table. The two lists are filled
@@ -111,32 +105,32 @@ pub fn read_tree_within(
     parent: &mut [u32],
     rank: &mut [u32],
     work: &mut [u32],
-) -> Counted
+) -> Result<u32, Refusal>
     ensures { Read limits bytes.now parent.old rank.old work.old
-        parent.new rank.new work.new result }
+        parent.new rank.new work.new (counted result) }
 {
     if bytes.len() < 4 {
-        return Counted::Refused(16, 0);
+        return Err(Fault::FileTooShort.at(0));
     }
     let n = word(bytes, 0);
     let most = limits.nodes as usize;
     if n == 0 {
-        return Counted::Refused(1, 0);
+        return Err(Fault::NoLots.at(0));
     }
     if most < n {
-        return Counted::Refused(limits.many, 0);
+        return Err(limits.many.at(0));
     }
     if bytes.len() != 4 + 8 * n {
-        return Counted::Refused(17, 0);
+        return Err(Fault::WrongFileLength.at(0));
     }
     if parent.len() != n {
-        return Counted::Refused(3, 0);
+        return Err(Fault::WrongLength.at(0));
     }
     if rank.len() != n {
-        return Counted::Refused(3, 0);
+        return Err(Fault::WrongLength.at(0));
     }
     if work.len() != 4 * n {
-        return Counted::Refused(3, 0);
+        return Err(Fault::WrongLength.at(0));
     }
     load(limits, bytes, parent, rank, work)
 }
@@ -174,38 +168,39 @@ pub fn write_tree_within(
     rank: &[u32],
     bytes: &mut [u8],
     work: &mut [u32],
-) -> Saved
+) -> Result<usize, Refusal>
     ensures { Wrote limits parent.now rank.now bytes.old work.old
-        bytes.new work.new result }
+        bytes.new work.new (saved result) }
 {
     let n = parent.len();
-    match table::validate(limits, parent, rank, true, work) {
-        Validity::Accepted => {
-            if bytes.len() != 4 + 8 * n {
-                return Saved::Unsaved(17, 0);
-            }
-            put_word(bytes, 0, n);
-            encode(parent, bytes, 4);
-            encode(rank, bytes, 4 + 4 * n);
-            Saved::Bytes(4 + 8 * n)
-        }
-        Validity::Refused(k, v) => Saved::Unsaved(k, v),
+    table::validate(limits, parent, rank, true, work)?;
+    if bytes.len() != 4 + 8 * n {
+        return Err(Fault::WrongFileLength.at(0));
     }
+    put_word(bytes, 0, n);
+    encode(parent, bytes, 4);
+    encode(rank, bytes, 4 + 4 * n);
+    Ok(4 + 8 * n)
 }
 
 // Reads a tree file of at most 65,536 nodes.
-pub fn read_tree(bytes: &[u8], parent: &mut [u32], rank: &mut [u32], work: &mut [u32]) -> Counted
+pub fn read_tree(
+    bytes: &[u8],
+    parent: &mut [u32],
+    rank: &mut [u32],
+    work: &mut [u32],
+) -> Result<u32, Refusal>
     ensures { Read large bytes.now parent.old rank.old work.old
-        parent.new rank.new work.new result }
+        parent.new rank.new work.new (counted result) }
 {
     let limits = table::large_limits();
     read_tree_within(limits, bytes, parent, rank, work)
 }
 
 // Writes the file of an accepted table of at most 65,536 nodes.
-pub fn write_tree(parent: &[u32], rank: &[u32], bytes: &mut [u8], work: &mut [u32]) -> Saved
+pub fn write_tree(parent: &[u32], rank: &[u32], bytes: &mut [u8], work: &mut [u32]) -> Result<usize, Refusal>
     ensures { Wrote large parent.now rank.now bytes.old work.old
-        bytes.new work.new result }
+        bytes.new work.new (saved result) }
 {
     let limits = table::large_limits();
     write_tree_within(limits, parent, rank, bytes, work)

@@ -1,6 +1,6 @@
 -- By the two answers.
 use mathlib.Core.Path.{sym, ap}
-use Rattle.drawing.specs.declared.Framed.{Framed}
+use Rattle.drawing.specs.Framed.{Framed}
 use Rattle.arranging.specs.Arranging.{at_place}
 use Rattle.arranging.proofs.at_place.Goals as goal
 

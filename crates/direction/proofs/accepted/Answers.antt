@@ -9,9 +9,9 @@ use Rattle.direction.proofs.accepted.Goals as goal
 
 pub returns-then-n-u : goal.returns-then-n-u
 returns-then-n-u c =
-    no_node c.args.parent.now c.args.rank.now c.args.rule c.args.u c.args.v
+    rw c.at.ensures (no_node c.args.parent.now c.args.rank.now c.args.rule c.args.u c.args.v
     (⊎_elim (λ first. either_first _ _ (le-leb _ _ first))
-    (λ second. either_second (leb (length c.args.parent.now) c.args.u) _ (le-leb _ _ second.1)) c.then-n-u.either)
+    (λ second. either_second (leb (length c.args.parent.now) c.args.u) _ (le-leb _ _ second.1)) c.then-n-u.either))
 
 pub returns : goal.returns
 returns c =

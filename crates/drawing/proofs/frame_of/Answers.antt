@@ -1,11 +1,11 @@
 -- One more than each coordinate's largest.
 use mathlib.Core.Path.{ap₂}
 use Prim.Native.Nat.{◌+◌}
-use Rattle.drawing.specs.declared.Framed.TheVariants.{Frame}
+use Rattle.drawing.specs.Framed.{Frame}
 use Rattle.drawing.specs.Drawing.{frame}
 use Rattle.drawing.proofs.frame_of.Goals as goal
 
 pub returns : goal.returns
 unfolding frame
 returns c times =
-    ap₂ (λ width height. Frame (width + 1) (height + 1)) c.largest_of-width.ensures c.largest_of-height.ensures
+    ap₂ (λ width height. Frame (width + 1) (height + 1)) c.largest_of.ensures c.largest_of-2.ensures

@@ -1,34 +1,38 @@
 -- Refusals 1 to 7, then 8, of the drawing and of held.
+use Rattle.std.proofs.Common.{refl}
+use Rattle.std.proofs.lemmas.Result.{err_from_is_err_and}
 use native.Mathlib.Omega.{arith}
 use Rattle.inspecting.proofs.Inspecting.{first_fault, inspecting_table, inspecting_8, inspecting_all}
 use Rattle.inspecting.proofs.inspect.Goals as goal
 
 pub first_misfit-u-requires : goal.first_misfit-u-requires
-first_misfit-u-requires c = (c.prepare-valid.ensures.left c.in-Accepted.is).sized
+first_misfit-u-requires c = (c.in_ok-prepare.ensures.left refl).sized
 
 pub first_misheld-requires : goal.first_misheld-requires
 first_misheld-requires c =
-    let lists = c.prepare-valid.ensures.left c.in-Accepted.is in
+    let lists = c.in_ok-prepare.ensures.left refl in
     omega (arith, lists.held, lists.sized.numbered.tree.some)
 
-pub overflow_cast-result : goal.overflow_cast-result
-overflow_cast-result c =
-    let few = (c.prepare-valid.ensures.left c.in-Accepted.is).sized.numbered.few in
+pub at-requires : goal.at-requires
+at-requires c =
+    let few = (c.in_ok-prepare.ensures.left refl).sized.numbered.few in
     omega arith
 
 pub returns-then-v-n : goal.returns-then-v-n
 returns-then-v-n c =
-    inspecting_8 _ c.prepare-valid.ensures c.in-Accepted.is
+    rw c.at.ensures (inspecting_8 _ c.in_ok-prepare.ensures refl
     (first_fault _ _ _ _ _ c.first_misfit-u.ensures c.first_misheld.ensures
-    (c.prepare-valid.ensures.left c.in-Accepted.is).held c.smaller-v.ensures)
-    c.if-v-n.true
+    (c.in_ok-prepare.ensures.left refl).held c.smaller-v.ensures)
+    c.if-v-n.true)
 
-pub returns-in-Refused : goal.returns-in-Refused
-returns-in-Refused c = inspecting_table _ c.prepare-valid.ensures c.in-Refused.is
+pub returns-in_err-prepare : goal.returns-in_err-prepare
+returns-in_err-prepare c =
+    let p = err_from_is_err_and c.from_residual.result c.from_residual.ensures.1 in
+    rw (p.1, p.2) (inspecting_table _ c.in_err-prepare.ensures refl)
 
-pub returns-else-v-n : goal.returns-else-v-n
-returns-else-v-n c =
-    inspecting_all _ c.prepare-valid.ensures c.in-Accepted.is
+pub returns : goal.returns
+returns c =
+    inspecting_all _ c.in_ok-prepare.ensures refl
     (first_fault _ _ _ _ _ c.first_misfit-u.ensures c.first_misheld.ensures
-    (c.prepare-valid.ensures.left c.in-Accepted.is).held c.smaller-v.ensures)
+    (c.in_ok-prepare.ensures.left refl).held c.smaller-v.ensures)
     c.if-v-n.false

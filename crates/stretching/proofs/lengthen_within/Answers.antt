@@ -1,29 +1,31 @@
 -- Refusals 1 to 8, then lengthen on an accepted sheet, then its frame.
-use mathlib.Core.Path.{refl}
+use Rattle.std.proofs.Common.{refl}
+use Rattle.std.proofs.lemmas.Result.{err_from_is_err_and}
 use Rattle.drawing.specs.Parts.{framable}
 use Rattle.stretching.proofs.Openings.{opened, opened_after}
 use Rattle.stretching.proofs.Outcomes.{sheet_refused, edge_refused, edge-longer}
 use Rattle.stretching.proofs.lengthen_within.Goals as goal
 
-pub lengthen_edge-verdict-requires : goal.lengthen_edge-verdict-requires
-lengthen_edge-verdict-requires c = (c.requires, opened c.inspect-valid.ensures c.in-Accepted.is)
+pub lengthen_edge-requires : goal.lengthen_edge-requires
+lengthen_edge-requires c = (c.requires, opened c.in_ok-inspect.ensures refl)
 
 pub frame_of-requires : goal.frame_of-requires
 frame_of-requires c =
     framable c.requires
-    (opened_after (opened c.inspect-valid.ensures c.in-Accepted.is) _ _ _ _
-    c.lengthen_edge-verdict.ensures).inspected.sound.drawn
+    (opened_after (opened c.in_ok-inspect.ensures refl) _ _ _ _ c.in_ok-lengthen_edge.ensures).inspected.sound.drawn
     refl
 
-pub returns-in-Refused : goal.returns-in-Refused
-returns-in-Refused c = sheet_refused _ c.inspect-valid.ensures _ _ c.in-Refused.is
+pub returns-in_err-inspect : goal.returns-in_err-inspect
+returns-in_err-inspect c =
+    let p = err_from_is_err_and c.from_residual.result c.from_residual.ensures.1 in
+    rw (p.1, p.2) (sheet_refused _ c.in_err-inspect.ensures _ _ refl)
 
-pub returns-in-Refused-verdict : goal.returns-in-Refused-verdict
-returns-in-Refused-verdict c =
-    edge_refused _ c.inspect-valid.ensures _ _ _ _
-    c.lengthen_edge-verdict.ensures c.in-Refused-verdict.is
+pub returns-in_err-lengthen_edge : goal.returns-in_err-lengthen_edge
+returns-in_err-lengthen_edge c =
+    let p = err_from_is_err_and c.from_residual-in_err-lengthen_edge.result
+    c.from_residual-in_err-lengthen_edge.ensures.1 in
+    rw (p.1, p.2) (edge_refused _ c.in_ok-inspect.ensures _ _ _ _ c.in_err-lengthen_edge.ensures refl)
 
-pub returns-in-Accepted-verdict : goal.returns-in-Accepted-verdict
-returns-in-Accepted-verdict c =
-    edge-longer _ c.inspect-valid.ensures _ _ _ _
-    c.lengthen_edge-verdict.ensures c.in-Accepted-verdict.is (c.frame_of.ensures _)
+pub returns : goal.returns
+returns c =
+    edge-longer _ c.in_ok-inspect.ensures _ _ _ _ c.in_ok-lengthen_edge.ensures refl (c.frame_of.ensures _)

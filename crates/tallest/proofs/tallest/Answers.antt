@@ -6,29 +6,31 @@ use Rattle.tallest.proofs.Answers.{no_nodes, too_many, within, not_long, height_
 use Rattle.tallest.proofs.tallest.Goals as goal
 
 pub returns-then-n-eq0 : goal.returns-then-n-eq0
-returns-then-n-eq0 c = no_nodes _ _ c.large_limits-limits.ensures c.if-n-eq0.true
+returns-then-n-eq0 c = rw c.at.ensures (no_nodes _ _ c.large_limits-limits.ensures c.if-n-eq0.true)
 
 pub returns-then-most-n : goal.returns-then-most-n
-returns-then-most-n c = too_many _ _ c.large_limits-limits.ensures c.if-n-eq0.false c.if-most-n.true
+returns-then-most-n c =
+    rw c.at-then-most-n.ensures (too_many _ _ c.large_limits-limits.ensures c.if-n-eq0.false c.if-most-n.true)
 
 pub returns-then-not-long : goal.returns-then-not-long
 returns-then-not-long c =
-    not_long (within c.large_limits-limits.ensures c.if-n-eq0.false (omega arith) c.both_long-long.ensures)
-    (ap not c.if-not-long.true)
+    rw c.at-then-not-long.ensures
+    (not_long (within c.large_limits-limits.ensures c.if-n-eq0.false (omega arith) c.both_long-long.ensures)
+    (ap not c.if-not-long.true))
 
 pub hang_each-requires : goal.hang_each-requires
 hang_each-requires c =
     parents_fit (within c.large_limits-limits.ensures c.if-n-eq0.false (omega arith) c.both_long-long.ensures)
     (ap not c.if-not-long.false)
 
-pub overflow_mul-result : goal.overflow_mul-result
-overflow_mul-result c =
+pub overflow_mul-height : goal.overflow_mul-height
+overflow_mul-height c =
     let fits = height_fits
     (within c.large_limits-limits.ensures c.if-n-eq0.false (omega arith) c.both_long-long.ensures) in
     omega (arith, fits.0)
 
-pub overflow_add-result : goal.overflow_add-result
-overflow_add-result c =
+pub overflow_add-height : goal.overflow_add-height
+overflow_add-height c =
     let fits = height_fits
     (within c.large_limits-limits.ensures c.if-n-eq0.false (omega arith) c.both_long-long.ensures) in
     omega (arith, fits.1)
