@@ -1,10 +1,11 @@
--- The loops that find the first slots: zeroing, counting the children of each node, and summing the counts up.
+-- The loops that find the first slots: counting the children of each node, and summing the counts up.
 use mathlib.Core.Bool.{Bool, true, false}
 use mathlib.Core.List.{List}
 use mathlib.Core.Path.{◌≡◌, refl, sym, ap, subst, subst⁻¹, ◌∙◌}
-use Prim.Native.Nat.{ℕ, ◌+◌, ◌*◌, ◌≤◌, ◌<◌}
+use Prim.Native.Nat.{ℕ, ◌+◌, ◌-◌, ◌*◌, ◌^◌, ◌≤◌, ◌<◌}
 use native.Mathlib.Omega.{arith}
-use lib.ListN.{length, get_or, set}
+use lib.ListN.{length, get_or, set, take, drop}
+use Rattle.std.proofs.lemmas.Grind.{common_steps}
 use Rattle.laws.specs.Regions.{Only, read_set, only_refl, only_trans, only_within, only_set}
 use Rattle.laws.specs.Search.{bit, count}
 use Rattle.laws.specs.SearchLaws.{count-zero, count_more, count_le}
@@ -13,35 +14,6 @@ use Rattle.laws.specs.Tests.{by_lt, false_of}
 use Rattle.table.specs.Children.{child_of, child_test, root_no_child, children-total}
 use Rattle.table.specs.Table.{parent, is_child, children}
 use Rattle.table.specs.Parts.{Scratch, Zeroed, Tallied, Started}
-
-------------------------------------------------------------------------
--- Zeroing
-
-pub record Zeroing (a e i : ℕ) (W X : List ℕ) : Type 0 where
-  pub from : a ≤ i
-  pub upto : i ≤ e
-  pub fit : e ≤ length W
-  pub done : Zeroed a i X
-  pub kept : Only a e W X
-
-pub zeroing_in : {a e i : ℕ} {W X : List ℕ} → Zeroing a e i W X → i < e → i < length X
-zeroing_in z l = omega arith
-
-pub zeroing_step : {a e i : ℕ} {W X Y : List ℕ} → Zeroing a e i W X → i < e → Y ≡ set X i 0 → Zeroing a e (i + 1) W Y
-zeroing_step {a} {e} {i} {W} {X} {Y} z l q = record {
-  from = omega arith;
-  upto = omega arith;
-  fit = z.fit;
-  done = record {
-    at = λ k m o.
-        ap (λ (y : List ℕ). get_or y k 0) q
-        ∙ read_set X i k 0 0 (zeroing_in z l) (λ s. refl) (λ s. z.done.at k m (omega arith));
-  };
-  kept = only_set i 0 z.kept z.from l q;
-}
-
-pub zeroing_end : {a e i : ℕ} {W X : List ℕ} → Zeroing a e i W X → e ≤ i → Zeroed a e X × Only a e W X
-zeroing_end z l = (record { at = λ k m o. z.done.at k m (omega arith) }, z.kept)
 
 ------------------------------------------------------------------------
 -- Tallies
@@ -64,7 +36,6 @@ pub tally_none : (f : ℕ → Bool) (v x : ℕ) → x ≡ count f v → f v ≡ 
 tally_none f v x e h = omega (arith, count_more f v, ap bit h)
 
 pub record Tallying (P W X : List ℕ) (v : ℕ) : Type 0 where
-  pub from : 1 ≤ v
   pub upto : v ≤ length P
   pub none : get_or X 0 0 ≡ 0
   pub done : (p : ℕ) → p < length P → get_or X (p + 1) 0 ≡ count (is_child P p) v
@@ -72,7 +43,6 @@ pub record Tallying (P W X : List ℕ) (v : ℕ) : Type 0 where
 
 pub tallying_start : {P W : List ℕ} → Scratch P W → Zeroed 0 (2 * length P) W → Tallying P W W 1
 tallying_start {P} {W} w z = record {
-  from = omega arith;
   upto = w.nodes.some;
   none = z.at 0 (omega arith) (omega arith);
   done = λ p b. zeroed p b ∙ sym (no_child p);
@@ -87,37 +57,54 @@ tallying_start {P} {W} w z = record {
         by_lt (p + 1) (2 * length P) (λ c. z.at (p + 1) (omega arith) c)
         (λ c. absurd (omega arith))
 
--- what a turn reads and writes
-module _ {P W X : List ℕ} {v p : ℕ} (w : Scratch P W) (i : Tallying P W X v) (l : v < length P)
-    (e : p ≡ parent P v) where
-  pub tallying_in : p + 1 < length X
-  tallying_in = omega (arith, w.nodes.inside v l, i.kept.long, w.room)
+-- the parents of the nodes from 1 on
+abbrev pub later : List ℕ → List ℕ
+later P = take (length P - 1) (drop 1 P)
 
-  pub tallying_few : {k : ℕ} → k ≡ get_or X (p + 1) 0 → k ≤ v
-  tallying_few {k} ek = omega (arith, i.done p (omega (arith, w.nodes.inside v l)), count_le (is_child P p) v)
+later-count : (P : List ℕ) → length (later P) ≡ length P - 1
+later-count P = grind (arith, common_steps)
 
-  pub tallying_step : {k : ℕ} {Y : List ℕ} → k ≡ get_or X (p + 1) 0 → Y ≡ set X (p + 1) (k + 1) → Tallying P W Y (v + 1)
-  tallying_step {k} {Y} ek ey = record {
-    from = omega arith;
-    upto = omega arith;
-    none = kept_0;
-    done = tally_more (is_child P) (λ (x : ℕ). x + 1) (length P) X Y v p (λ a b s. omega arith) tallying_in
-        (omega (arith, w.nodes.inside v l))
-        (ey ∙ ap (λ (x : ℕ). set X (p + 1) (x + 1)) ek) i.done
-        (child_test P p v (record { above = i.from; up = sym e }))
-        (λ r ne. false_of (λ t. ne (sym (child_of P r v t).up ∙ sym e)));
-    kept = only_set (p + 1) (k + 1) i.kept (omega arith) (omega (arith, w.nodes.inside v l)) ey;
+later_parent : (P : List ℕ) (j : ℕ) → j < length (later P) → get_or (later P) j 0 ≡ parent P (j + 1)
+later_parent P j l = grind (arith, common_steps)
+
+-- what the turn at the parent of node j + 1 reads and writes
+module _ {P W X : List ℕ} {j : ℕ} (w : Scratch P W) (i : Tallying P W X (j + 1)) (l : j < length (later P)) where
+  node_inside : j + 1 < length P
+  node_inside = omega (arith, later-count P)
+
+  parent_inside : get_or (later P) j 0 < length P
+  parent_inside = omega (arith, later_parent P j l, w.nodes.inside (j + 1) node_inside)
+
+  pub tallying_in : get_or (later P) j 0 + 1 < length X
+  tallying_in = omega (arith, parent_inside, i.kept.long, w.room)
+
+  pub tallying_few : get_or X (get_or (later P) j 0 + 1) 0 + 1 < 2 ^ 32
+  tallying_few =
+      omega (
+        arith,
+        i.done (get_or (later P) j 0) parent_inside,
+        count_le (is_child P (get_or (later P) j 0)) (j + 1),
+        node_inside,
+        w.few,
+      )
+
+  pub tallying_step
+      : Tallying P W (set X (get_or (later P) j 0 + 1) (get_or X (get_or (later P) j 0 + 1) 0 + 1)) (j + 1 + 1)
+  tallying_step = record {
+    upto = omega (arith, node_inside);
+    none = read_set X (get_or (later P) j 0 + 1) 0 _ 0 tallying_in (λ s. absurd (omega arith)) (λ s. i.none);
+    done = tally_more (is_child P) (λ (x : ℕ). x + 1) (length P) X _ (j + 1) (get_or (later P) j 0)
+        (λ a b s. omega arith) tallying_in parent_inside refl i.done
+        (child_test P _ (j + 1) (record { above = omega arith; up = sym (later_parent P j l) }))
+        (λ r ne. false_of (λ t. ne (sym (child_of P r (j + 1) t).up ∙ sym (later_parent P j l))));
+    kept = only_set _ _ i.kept (omega arith) (omega (arith, parent_inside)) refl;
   }
-    where
-      kept_0 : get_or Y 0 0 ≡ 0
-      kept_0 =
-          ap (λ (z : List ℕ). get_or z 0 0) ey
-          ∙ read_set X (p + 1) 0 (k + 1) 0 tallying_in (λ s. absurd (omega arith)) (λ s. i.none)
 
-pub tallying_end : {P W X : List ℕ} {v : ℕ} → Tallying P W X v → length P ≤ v → Tallied P X × Only 0 (length P + 1) W X
+pub tallying_end : {P W X : List ℕ} {j : ℕ} → Tallying P W X (j + 1) → length (later P) ≤ j
+    → Tallied P X × Only 0 (length P + 1) W X
 unfolding children
-tallying_end {P} {W} {X} {v} i h =
-    let e : v ≡ length P = omega arith in (
+tallying_end {P} {W} {X} {j} i h =
+    let e : j + 1 ≡ length P = omega (arith, later-count P, i.upto) in (
       record {
         none = i.none;
         at = λ p l. subst (λ (m : ℕ). get_or X (p + 1) 0 ≡ count (is_child P p) m) e (i.done p l);
@@ -129,14 +116,12 @@ tallying_end {P} {W} {X} {v} i h =
 -- First slots: below p they stand, above p the tallies still do
 
 pub record Accumulating (P W X : List ℕ) (p : ℕ) : Type 0 where
-  pub upto : p ≤ length P
   pub done : (q : ℕ) → q ≤ p → get_or X q 0 ≡ sum (children P) q
   pub left : (q : ℕ) → p ≤ q → q < length P → get_or X (q + 1) 0 ≡ children P q
   pub kept : Only 0 (length P + 1) W X
 
 pub accumulating_start : {P W : List ℕ} → Tallied P W → Accumulating P W W 0
 accumulating_start {P} {W} t = record {
-  upto = omega arith;
   done = λ q l.
       let z : q ≡ 0 = omega arith in ap (λ (x : ℕ). get_or W x 0) z ∙ t.none
       ∙ sym (ap (sum (children P)) z ∙ sum-zero (children P));
@@ -145,42 +130,34 @@ accumulating_start {P} {W} t = record {
 }
 
 module _ {P W X : List ℕ} {p : ℕ} (w : Scratch P W) (i : Accumulating P W X p) (l : p < length P) where
-  pub accumulating_in : p + 1 < length X
-  accumulating_in = omega arith
+  accumulated : get_or X (p + 1) 0 + get_or X p 0 ≡ sum (children P) (p + 1)
+  accumulated = omega (arith, i.done p (omega arith), i.left p (omega arith) l, sum_more (children P) p)
 
-  module _ {s k : ℕ} (es : s ≡ get_or X p 0) (ek : k ≡ get_or X (p + 1) 0) where
-    accumulated : s + k ≡ sum (children P) (p + 1)
-    accumulated = omega (arith, i.done p (omega arith), i.left p (omega arith) l, sum_more (children P) p)
+  pub accumulating_few : get_or X (p + 1) 0 + get_or X p 0 < length P
+  accumulating_few =
+      omega (
+        arith,
+        accumulated,
+        children-total P w.nodes,
+        sum_mono (children P) (p + 1) (length P) (omega arith),
+      )
 
-    pub accumulating_few : s + k < length P
-    accumulating_few =
-        omega (
-          arith,
-          accumulated,
-          children-total P w.nodes,
-          sum_mono (children P) (p + 1) (length P) (omega arith),
-        )
+  pub accumulating_step : Accumulating P W (set X (p + 1) (get_or X (p + 1) 0 + get_or X p 0)) (p + 1)
+  accumulating_step = record {
+    done = λ q m.
+        read_set X (p + 1) q _ _ inside (λ e. accumulated ∙ ap (sum (children P)) (sym e))
+        (λ ne. i.done q (less q m ne));
+    left = λ q m o.
+        read_set X (p + 1) (q + 1) _ _ inside (λ e. absurd (omega arith))
+        (λ ne. i.left q (omega arith) o);
+    kept = only_set (p + 1) _ i.kept (omega arith) (omega arith) refl;
+  }
+    where
+      inside : p + 1 < length X
+      inside = omega arith
 
-    pub accumulating_step : {Y : List ℕ} → Y ≡ set X (p + 1) (s + k) → Accumulating P W Y (p + 1)
-    accumulating_step {Y} ey = record {
-      upto = omega arith;
-      done = λ q m.
-          ap (λ (y : List ℕ). get_or y q 0) ey
-          ∙ read_set X (p + 1) q (s + k) _ accumulating_in (λ e. accumulated ∙ ap (sum (children P)) (sym e))
-          (λ ne. i.done q (less q m ne));
-      left = λ q m o.
-          ap (λ (y : List ℕ). get_or y (q + 1) 0) ey
-          ∙ read_set X (p + 1) (q + 1) (s + k) _ accumulating_in (λ e. absurd (omega arith))
-          (λ ne. i.left q (omega arith) o);
-      kept = only_set (p + 1) (s + k) i.kept (omega arith) (omega arith) ey;
-    }
-      where
-        less : (q : ℕ) → q ≤ p + 1 → (q ≡ p + 1 → ⊥) → q ≤ p
-        less q m ne = omega arith
-
-pub accumulating_end : {P W X : List ℕ} {p : ℕ} → Accumulating P W X p → length P ≤ p
-    → Started P X × Only 0 (length P + 1) W X
-accumulating_end i h = (record { at = λ q l. i.done q (omega arith) }, i.kept)
+      less : (q : ℕ) → q ≤ p + 1 → (q ≡ p + 1 → ⊥) → q ≤ p
+      less q m ne = omega arith
 
 pub started_all : {P W A B C : List ℕ} → Scratch P W → Zeroed 0 (2 * length P) A × Only 0 (2 * length P) W A
     → Tallied P B × Only 0 (length P + 1) A B → Started P C × Only 0 (length P + 1) B C

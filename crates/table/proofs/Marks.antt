@@ -74,7 +74,6 @@ module _ {P W : List ℕ} {v u k : ℕ} (w : Scratch P W) (i : Stepping P W v u 
 -- Marking the way
 
 pub record Passing (P W X : List ℕ) (v k u i : ℕ) : Type 0 where
-  pub upto : i ≤ k
   pub is : u ≡ climb P i v
   pub marking : Marking P X
   pub still : marked P W v ≡ true → marked P X v ≡ true
@@ -83,7 +82,6 @@ pub record Passing (P W X : List ℕ) (v k u i : ℕ) : Type 0 where
 
 pub passing_start : {P W : List ℕ} {v k : ℕ} → Reaching P W v k → Passing P W W v k v 0
 passing_start {P} {W} {v} r = record {
-  upto = omega arith;
   is = sym (climb-zero P v);
   marking = r.marking;
   still = λ t. t;
@@ -120,7 +118,6 @@ module _ {P W X : List ℕ} {v k u i : ℕ} (r : Reaching P W v k) (p : Passing 
   pub passing_step : {Y : List ℕ} {y : ℕ} → i < k → Y ≡ set X (length P + u) 1 → y ≡ parent P u
       → Passing P W Y v k y (i + 1)
   passing_step {Y} {y} l ey eu = record {
-    upto = omega arith;
     is = eu ∙ ap (parent P) p.is ∙ sym (climb-suc P i v) ∙ ap (λ (j : ℕ). climb P j v) (sym (add-one i));
     marking = record {
       root =
@@ -153,8 +150,8 @@ module _ {P W X : List ℕ} {v k u i : ℕ} (r : Reaching P W v k) (p : Passing 
           by_lt 0 i (λ h. h)
           (λ h. absurd (ne (sym (climb-zero P v) ∙ ap (λ (j : ℕ). climb P j v) (omega arith) ∙ sym p.is)))
 
-  pub passing_end : k ≤ i → (Marking P X × (marked P X v ≡ true)) × Only (length P + 1) (2 * length P) W X
-  passing_end l = ((p.marking, by_lt 0 i p.first (λ h. p.still (already (omega arith)))), p.kept)
+  pub passing_end : k ≤ i → Marking P X × (marked P X v ≡ true)
+  passing_end l = (p.marking, by_lt 0 i p.first (λ h. p.still (already (omega arith))))
     where
       already : k ≡ 0 → marked P W v ≡ true
       already e =

@@ -1,6 +1,6 @@
 -- The numbering: slots filled with the children, and the walk in post-order through them.
 use mathlib.Core.List.{List}
-use mathlib.Core.Path.{◌≡◌, sym, ap, ap₂, subst, subst⁻¹, ◌∙◌}
+use mathlib.Core.Path.{◌≡◌, sym, ap, ap₂, subst⁻¹, ◌∙◌}
 use Prim.Native.Nat.{ℕ, ◌+◌, ◌*◌, ◌≤◌, ◌<◌}
 use native.Mathlib.Omega.{arith}
 use lib.ListN.{length, get_or, set}
@@ -75,9 +75,6 @@ pub record Filling (P R X : List ℕ) (v : ℕ) : Type 0 where
   pub ready : Ready P R X
   pub done : (u : ℕ) → 0 < u → u < v → u < length P → get_or X (length P + 1 + slot P R u) 0 ≡ u
 
-pub filling_start : {P R W : List ℕ} → Ready P R W → Filling P R W 1
-filling_start w = record { from = omega arith; ready = w; done = λ u a b. absurd (omega arith) }
-
 module _ {P R X : List ℕ} {v p r : ℕ} (i : Filling P R X v) (l : v < length P) (ep : p ≡ parent P v)
     (er : r ≡ rank R v) where
   pub parent_in : p < length X
@@ -131,9 +128,6 @@ module _ {P R X : List ℕ} {v p r : ℕ} (i : Filling P R X v) (l : v < length 
         earlier u b ne =
             by_eq u v (λ e. absurd (ne (ap (λ (x : ℕ). length P + 1 + x) (ap (slot P R) e ∙ sym slot_is))))
             (λ no_eq. omega arith)
-
-pub filling_end : {P R X : List ℕ} {v : ℕ} → Filling P R X v → length P ≤ v → Seated P R X
-filling_end i h = record { ready = i.ready; slotted = record { at = λ u a l. i.done u a (omega arith) l } }
 
 ------------------------------------------------------------------------
 -- Down to a leaf: the subtrees passed all start with the same node
@@ -405,27 +399,15 @@ walking_above {P} {R} i h =
     z : {v : ℕ} → v ≤ 0 → v ≡ 0
     z a = omega arith
 
-pub walking_step : {P R X Y : List ℕ} {v u c : ℕ} → Walking P R X v c → Visited P R Y (c + 1) → Next P R v u
-    → Walking P R Y u (c + 1)
-walking_step i d m = record { visited = d; inside = m.inside; number = omega arith }
-
-pub walking_end : {P R X Y : List ℕ} {v c : ℕ} → Walking P R X v c → length P ≤ c + 1 → Visited P R Y (c + 1)
-    → Visited P R Y (length P)
-walking_end {P} {R} {X} {Y} {v} {c} i h d =
-    let e : c + 1 ≡ length P = omega (arith, visited_room i.visited i.inside i.number) in
-    subst (Visited P R Y) e d
-
 ------------------------------------------------------------------------
 -- Post numbers from the order
 
 pub record Inverting (P R W X : List ℕ) (j : ℕ) : Type 0 where
-  pub upto : j ≤ length P
   pub done : (v : ℕ) → v < length P → post_number P R v ≤ j → get_or X v 0 ≡ post_number P R v
   pub kept : Only 0 (length P) W X
 
 pub inverting_start : {P R W : List ℕ} → Visited P R W (length P) → Inverting P R W W 0
 inverting_start {P} {R} {W} d = record {
-  upto = omega arith;
   done = λ v l h. absurd (omega (arith, number_start d.seated.ready.tree v l));
   kept = only_refl _ _ W;
 }
@@ -446,7 +428,6 @@ module _ {P R W X : List ℕ} {j v : ℕ} (d : Visited P R W (length P)) (i : In
 
   pub inverting_step : {Y : List ℕ} → Y ≡ set X v (j + 1) → Inverting P R W Y (j + 1)
   inverting_step {Y} ey = record {
-    upto = omega arith;
     done = λ u m h.
         ap (λ (y : List ℕ). get_or y u 0) ey
         ∙ read_set X v u (j + 1) _ inverting_in (λ e. sym (ap (post_number P R) e ∙ number_is_next))

@@ -101,13 +101,7 @@ pub fn copy_out(work: &[u32], a: usize, list: &mut [u32])
     ensures { Copied list.new work.now a
         × (length list.new ≡ length list.old) }
 {
-    let n = list.len();
-    let mut i = 0;
-    while i < n {
-        let w = get(work, a + i);
-        put(list, i, w);
-        i += 1;
-    }
+    list.copy_from_slice(&work[a..a + list.len()]);
 }
 
 // Whether two lists are n long.
@@ -139,11 +133,7 @@ pub fn clear(work: &mut [u32], a: usize, e: usize)
     requires { (a ≤ e) × (e ≤ length work.old) }
     ensures { Zeroed a e work.new × Only a e work.old work.new }
 {
-    let mut i = a;
-    while i < e {
-        put(work, i, 0);
-        i += 1;
-    }
+    work[a..e].fill(0);
 }
 
 // Counts the children of p at p + 1, for each node p.
@@ -152,13 +142,8 @@ fn tally(parent: &[u32], work: &mut [u32])
     ensures { Tallied parent.now work.new
         × Only 0 (length parent.now + 1) work.old work.new }
 {
-    let n = parent.len();
-    let mut v = 1;
-    while v < n {
-        let p = get(parent, v) + 1;
-        let k = get(work, p);
-        put(work, p, k + 1);
-        v += 1;
+    for p in &parent[1..] {
+        work[*p as usize + 1] += 1;
     }
 }
 
@@ -168,13 +153,8 @@ fn accumulate(parent: &[u32], work: &mut [u32])
     ensures { Started parent.now work.new
         × Only 0 (length parent.now + 1) work.old work.new }
 {
-    let n = parent.len();
-    let mut p = 0;
-    while p < n {
-        let s = get(work, p);
-        let k = get(work, p + 1);
-        put(work, p + 1, s + k);
-        p += 1;
+    for p in 0..parent.len() {
+        work[p + 1] += work[p];
     }
 }
 
@@ -220,10 +200,8 @@ fn occupy(parent: &[u32], rank: &[u32], work: &mut [u32])
         work.new }
 {
     let n = parent.len();
-    let mut v = 1;
-    while v < n {
+    for v in 1..n {
         seat(parent, rank, work, v);
-        v += 1;
     }
 }
 
@@ -256,15 +234,13 @@ fn steps(parent: &[u32], work: &[u32], v: usize) -> usize
 {
     let n = parent.len();
     let mut u = v;
-    let mut k = 0;
-    while k <= n {
+    for k in 0..=n {
         if 0 < get(work, n + u) {
             return k;
         }
         u = get(parent, u);
-        k += 1;
     }
-    k
+    n + 1
 }
 
 // Marks the first k nodes on the way up from v, which leads to a marked one.
@@ -277,11 +253,9 @@ fn mark(parent: &[u32], work: &mut [u32], v: usize, k: usize)
 {
     let n = parent.len();
     let mut u = v;
-    let mut i = 0;
-    while i < k {
+    for _ in 0..k {
         put(work, n + u, 1);
         u = get(parent, u);
-        i += 1;
     }
 }
 
@@ -384,13 +358,11 @@ fn fill(parent: &[u32], rank: &[u32], work: &mut [u32])
     ensures { Seated parent.now rank.now work.new }
 {
     let n = parent.len();
-    let mut v = 1;
-    while v < n {
+    for v in 1..n {
         let p = get(parent, v);
         let r = get(rank, v);
         let s = get(work, p) + r;
         put(work, n + 1 + s, v);
-        v += 1;
     }
 }
 
@@ -402,6 +374,7 @@ fn leaf(parent: &[u32], rank: &[u32], work: &[u32], v: usize) -> usize
     let n = parent.len();
     let mut u = v;
     let mut s = get(work, u);
+    // This walk down the tree counts nothing: how many steps lead to a leaf is not known before.
     while s < get(work, u + 1) {
         u = get(work, n + 1 + s);
         s = get(work, u);
@@ -451,13 +424,11 @@ fn walk(parent: &[u32], rank: &[u32], work: &mut [u32])
 {
     let n = parent.len();
     let mut v = leaf(parent, rank, work, 0);
-    let mut c = 0;
-    while c + 1 < n {
+    for c in 0..n - 1 {
         visit(parent, rank, work, v, c);
         v = next(parent, rank, work, v);
-        c += 1;
     }
-    visit(parent, rank, work, v, c);
+    visit(parent, rank, work, v, n - 1);
 }
 
 // The post number of each node, from the order.
@@ -466,11 +437,9 @@ fn invert(parent: &[u32], rank: &[u32], work: &mut [u32])
     ensures { Numbered parent.now rank.now work.new }
 {
     let n = parent.len();
-    let mut j = 0;
-    while j < n {
+    for j in 0..n {
         let v = get(work, 3 * n + j);
         put(work, v, j + 1);
-        j += 1;
     }
 }
 

@@ -1,5 +1,5 @@
 -- The nodes below v are counted in their slots.
-use Prim.Native.Nat.{◌+◌, ◌*◌, ◌-◌, ◌≤◌}
+use Prim.Native.Nat.{◌+◌, ◌*◌}
 use lib.ListN.{length}
 use Rattle.laws.specs.Regions.{Only}
 use Rattle.table.specs.Parts.{Seating}
@@ -7,8 +7,5 @@ use Rattle.table.proofs.occupy.Given as goal
 
 abbrev pub invariant-loop-v : goal.invariant-loop-v
 invariant-loop-v l =
-    Seating l.parent l.rank l.work l.v × (l.v ≤ length l.parent)
+    Seating l.parent l.rank l.work l.v
     × Only (length l.parent + 1) (2 * length l.parent) l.initial.work l.work
-
-abbrev pub decreases-loop-v : goal.decreases-loop-v
-decreases-loop-v l = length l.parent - l.v

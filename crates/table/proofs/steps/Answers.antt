@@ -1,7 +1,8 @@
 -- No node on the way from v up to u is marked.
-use Rattle.table.proofs.Marks.{stepping_start, stepping_found, stepping_step}
-use Rattle.table.proofs.Marks.{stepping_end}
+use native.Mathlib.Omega.{arith}
+use Rattle.table.proofs.Marks.{stepping_start, stepping_found, stepping_step, stepping_end}
 use Rattle.table.proofs.steps.Goals as goal
+use Rattle.table.proofs.steps.Goals.{else-loop-k-test, then-loop-k-test+else-get-gt0+else-k-n}
 
 pub loop-k-init : goal.loop-k-init
 loop-k-init c = stepping_start _ c.requires.1
@@ -17,4 +18,13 @@ loop-k-preserved c =
     c.get.ensures.0 c.if-get-gt0.false c.get-u.ensures.0
 
 pub returns : goal.returns
-returns c = stepping_end c.requires.0 c.loop-k.invariant c.loop-k-test.false
+returns c =
+    elim c.loop-k-test.branch [
+      | else-loop-k-test w ↦ absurd (omega arith)
+      | then-loop-k-test+else-get-gt0+else-k-n w ↦
+          omega (
+            arith,
+            stepping_end c.requires.0 (stepping_step c.requires.0 c.loop-k.invariant c.loop-k.auto.k-end
+                w.get.ensures.0 w.if-get-gt0.false w.get-u.ensures.0) (omega arith),
+          )
+    ]

@@ -1,11 +1,6 @@
 -- No node on the way from v up to u is marked.
-use Prim.Native.Nat.{◌+◌, ◌-◌}
-use lib.ListN.{length}
 use Rattle.table.proofs.Marks.{Stepping}
 use Rattle.table.proofs.steps.Given as goal
 
 abbrev pub invariant-loop-k : goal.invariant-loop-k
 invariant-loop-k l = Stepping l.parent l.work l.v l.u l.k
-
-abbrev pub decreases-loop-k : goal.decreases-loop-k
-decreases-loop-k l = length l.parent + 1 - l.k

@@ -1,12 +1,6 @@
 -- The node at hand is the one with number c + 1.
-use mathlib.Core.Path.{◌≡◌}
-use Prim.Native.Nat.{◌-◌}
-use lib.ListN.{length}
 use Rattle.table.proofs.Walks.{Walking}
 use Rattle.table.proofs.walk.Given as goal
 
 abbrev pub invariant-loop-c : goal.invariant-loop-c
-invariant-loop-c l = Walking l.parent l.rank l.work l.v l.c × (length l.work ≡ length l.initial.work)
-
-abbrev pub decreases-loop-c : goal.decreases-loop-c
-decreases-loop-c l = length l.parent - l.c
+invariant-loop-c l = Walking l.parent l.rank l.work l.v l.c
