@@ -3,20 +3,18 @@
 use mathlib.Core.Bool.{true, false}
 use mathlib.Core.List.{List}
 use mathlib.Core.Logic.{inl, inr, ⊎_elim}
-use mathlib.Core.Path.{◌≡◌, subst, subst⁻¹}
+use mathlib.Core.Path.{◌≡◌, subst⁻¹}
 use Prim.Native.Nat.{ℕ, ◌+◌, ◌*◌, ◌≤◌, ◌<◌}
 use native.Mathlib.Omega.{arith}
 use lib.IntN.{pos, neg_ℤ, ◌-ℤ◌}
 use lib.ListN.{length, get_or}
 use Rattle.laws.specs.Differences.{IsDiff, recast, diff_pos, diff_neg, diff_add, diff_eq}
 use Rattle.laws.specs.Regions.{Only}
-use Rattle.laws.specs.Tests.{by_eq, by_lt, by_test}
+use Rattle.laws.specs.Tests.{by_lt, by_test}
 use Rattle.table.specs.Paths.{step}
 use Rattle.table.specs.Table.{parent, under}
 use Rattle.table.specs.TableLaws.{Tree}
-use Rattle.monotone.specs.Verdict.{Verdict}
-use Rattle.monotone.specs.Verdict.{Monotone}
-use Rattle.monotone.specs.Monotone.{HasDirection, AllDirected, FirstTurn}
+use Rattle.monotone.specs.Monotone.{HasDirection, FirstTurn}
 use Rattle.monotone.specs.MonotoneLaws.{Before}
 use Rattle.monotone.specs.Plane.{HasHalfPlane, cone_open}
 use Rattle.monotone.specs.Cones.{part_at, edge_at, Holds, any, empty, shut, wide}
@@ -106,18 +104,9 @@ pub record Passed (P W : List ℕ) (u v : ℕ) : Type 0 where
   pub all : (x y : List ℕ) → DrawnEdges P x y W → (a b : ℕ) → a < b → b < length P → Before a b u v
       → HasDirection P x y a b
 
-pub passed_none : {P W : List ℕ} → Passed P W 0 0
-passed_none = record { all = λ x y d a b h k. ⊎_elim (λ l. absurd (omega arith)) (λ l. absurd (omega arith)) }
-
 -- none of the cones between u and v is 2
 pub record Clear (X : List ℕ) (u v : ℕ) : Type 0 where
   pub none : (w : ℕ) → u < w → w < v → get_or X w 0 ≡ 2 → ⊥
-
-pub clear_more : {X : List ℕ} {u v : ℕ} → Clear X u v → (get_or X v 0 ≡ 2 → ⊥) → Clear X u (v + 1)
-clear_more {X} {u} {v} c ne = record {
-  none = λ w h k e. by_eq w v (λ s. ne (subst (λ (i : ℕ). get_or X i 0 ≡ 2) s e))
-      (λ d. c.none w h (let l : w < v = omega arith in l) e);
-}
 
 module _ {P R : List ℕ} (T : Tree P R) {u v : ℕ} (l : u < length P) {W X Y : List ℕ} (only : Only 0 (length P) W X)
     (c : Coned P u X Y) (passed : Passed P W u 0) (clear : Clear Y u v) where
@@ -144,21 +133,9 @@ module _ {P R : List ℕ} (T : Tree P R) {u v : ℕ} (l : u < length P) {W X Y :
     earlier = before x y d;
   }
 
-pub all_passed : {P W : List ℕ} {u : ℕ} → length P ≤ u → Passed P W u 0
-    → (x y : List ℕ) → DrawnEdges P x y W → AllDirected P x y
-all_passed end p x y d = record { directed = λ a b h k. p.all x y d a b h k (inl (omega arith)) }
-
 ------------------------------------------------------------------------
--- The loops
+-- The loop over u
 
-pub record OverRows (P W : List ℕ) (u : ℕ) (X : List ℕ) (answer : Verdict) : Type 0 where
-  pub most : u ≤ length P
+pub record OverRows (P W : List ℕ) (u : ℕ) (X : List ℕ) : Type 0 where
   pub only : Only 0 (length P) W X
   pub passed : Passed P W u 0
-  pub still : answer ≡ Monotone
-
-pub record OverRow (n u v : ℕ) (X : List ℕ) (answer : Verdict) : Type 0 where
-  pub past : u < v
-  pub most : v ≤ n
-  pub clear : Clear X u v
-  pub still : answer ≡ Monotone

@@ -244,9 +244,7 @@ fn cones(parent: &[u32], work: &mut [u32], u: usize)
     let n = parent.len();
     clear(work, 0, n);
     cones_up(parent, work, u);
-    let mut j = n;
-    while 0 < j {
-        j -= 1;
+    for j in (0..n).rev() {
         let v = get(work, 3 * n + j);
         visit(parent, work, v);
     }
@@ -260,21 +258,15 @@ fn pairs(parent: &[u32], work: &mut [u32]) -> Finding
         → Found parent.now x y (found result) }
 {
     let n = parent.len();
-    let mut answer = Finding::Monotone;
-    let mut u = 0;
-    'pairs: while u < n {
+    for u in 0..n {
         cones(parent, work, u);
-        let mut v = u + 1;
-        while v < n {
+        for v in u + 1..n {
             if get(work, v) == SHUT {
-                answer = Finding::Turns(u as u32, v as u32);
-                break 'pairs;
+                return Finding::Turns(u as u32, v as u32);
             }
-            v += 1;
         }
-        u += 1;
     }
-    answer
+    Finding::Monotone
 }
 
 // The edges' parts in the coordinate c, from `at` on: c of each node less c of its parent.
@@ -283,14 +275,11 @@ fn offsets(c: &[u32], parent: &[u32], work: &mut [u32], at: usize)
     ensures drawn_part { DrawnPart parent.now c.now at work.new }
     ensures only { Only at (at + length parent.now) work.old work.new }
 {
-    let n = parent.len();
-    let mut z = 0;
-    while z < n {
+    for z in 0..parent.len() {
         let p = get(parent, z);
         let below = get(c, z);
         let above = get(c, p);
         put(work, at + z, below + 2147483648 - above);
-        z += 1;
     }
 }
 

@@ -7,13 +7,6 @@ use Rattle.monotone.proofs.Spreading.{spreading_start, spreading_reached, spread
 use Rattle.monotone.proofs.Spreading.{ordered_kept, edges_stay, edges_away}
 use Rattle.monotone.proofs.cones.Goals as goal
 
-pub cones_up-requires : goal.cones_up-requires
-cones_up-requires c =
-    record {
-      with_edges = (edges_stay c.clear.ensures.1 c.requires.0, c.requires.2);
-      zeroed = c.clear.ensures.0;
-    }
-
 pub loop-j-init : goal.loop-j-init
 loop-j-init c =
     spreading_start (ordered_kept (λ j h. c.cones_up.ensures.only.above j h ∙ c.clear.ensures.1.above j (omega arith))
@@ -35,12 +28,6 @@ loop-j-preserved c =
     spreading_step c.requires.0.tree c.requires.2 climbed.edges c.loop-j-test.true c.loop-j.invariant
     (subst (λ (v : ℕ). ConeKnown c.args.parent.now c.loop-j.work v c.visit.new.work)
     c.get-v.ensures.0 c.visit.ensures)
-
-pub turn-requires : goal.turn-requires
-turn-requires c =
-    let climbed = edges_away c.cones_up.ensures.away c.cones_up.ensures.only.long
-    (edges_stay c.clear.ensures.1 c.requires.0) in
-    (edges_stay c.loop-j.invariant.only climbed, c.requires.2)
 
 pub returns : goal.returns
 returns c =

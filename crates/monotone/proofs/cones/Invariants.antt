@@ -4,6 +4,3 @@ use Rattle.monotone.proofs.cones.Given as goal
 
 abbrev pub invariant-loop-j : goal.invariant-loop-j
 invariant-loop-j l = Spreading l.parent l.u l.j l.initial.work l.work
-
-abbrev pub decreases-loop-j : goal.decreases-loop-j
-decreases-loop-j l = l.j
