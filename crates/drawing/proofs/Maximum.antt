@@ -1,28 +1,15 @@
--- The largest of a list, found from its front: the larger of what was found so far and the largest of the rest.
-use mathlib.Core.List.{List, ◌∷◌}
-use mathlib.Core.Path.{◌≡◌, sym, ap, ◌∙◌}
-use Prim.Native.Nat.{ℕ, ◌+◌, ◌≤◌, ◌<◌, max}
-use native.Mathlib.Numerals.{add-one}
+-- The largest of a list, found from its front: the larger of what was found so far and each number in turn.
+use mathlib.Core.List.{List, [], ◌∷◌}
+use mathlib.Core.Path.{◌≡◌}
+use Prim.Native.Nat.{ℕ, max}
 use native.Mathlib.Omega.{arith}
-use lib.ListN.{length, get_or, drop, drop_of_length-le}
-use lib.Seq.{drop-cons}
+use Rattle.std.specs.Prelude.{fold}
 use Rattle.drawing.specs.Drawing.{largest}
 
-pub record Maximum (l : List ℕ) (most i : ℕ) : Type 0 where
-  pub inside : i ≤ length l
-  pub rest : max most (largest (drop i l)) ≡ largest l
-
-pub maximum_start : (l : List ℕ) → Maximum l 0 0
-maximum_start l = record { inside = omega arith; rest = omega arith }
-
-pub maximum_step : {l : List ℕ} {most i m : ℕ} → Maximum l most i → i < length l → m ≡ max most (get_or l i 0)
-    → Maximum l m (i + 1)
+fold_from : (most : ℕ) (l : List ℕ) → fold (λ a b. max a b) most l ≡ max most (largest l)
 unfolding largest
-maximum_step {l} {most} {i} {m} x h e =
-    let next : drop i l ≡ get_or l i 0 ∷ drop (i + 1) l =
-    drop-cons l i 0 h ∙ ap (λ (k : ℕ). get_or l i 0 ∷ drop k l) (sym (add-one i)) in
-    record { inside = omega arith; rest = omega (arith, x.rest, ap largest next) }
+fold_from most [] = omega arith
+fold_from most (a ∷ l) = omega (arith, fold_from (max most a) l)
 
-pub maximum_end : {l : List ℕ} {most i : ℕ} → Maximum l most i → length l ≤ i → most ≡ largest l
-unfolding largest
-maximum_end {l} {most} {i} x h = omega (arith, x.rest, ap largest (drop_of_length-le l h))
+pub fold_largest : (l : List ℕ) → fold (λ a b. max a b) 0 l ≡ largest l
+fold_largest l = omega (arith, fold_from 0 l)

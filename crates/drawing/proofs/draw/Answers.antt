@@ -1,6 +1,6 @@
--- The nodes with numbers above j are drawn.
+-- The nodes with numbers from j on are drawn.
 use native.Mathlib.Omega.{arith}
-use Rattle.slopes.proofs.Backward.{backward_start, backward_edge, backward_ready, backward_step}
+use Rattle.slopes.proofs.Backward.{backward_start, backward_edge, backward_step}
 use Rattle.drawing.proofs.Laying.{laying_start, laying_x, laying_y, laying_step, laying_end}
 use Rattle.drawing.proofs.draw.Goals as goal
 
@@ -10,42 +10,24 @@ loop-j-init c = (
   laying_start c.requires c.put.ensures c.put-2.ensures c.put-3.ensures,
 )
 
-pub node_at-v-requires : goal.node_at-v-requires
-node_at-v-requires c = (c.loop-j.invariant.0.numbered, c.loop-j-test.true, c.loop-j.invariant.0.low)
-
-pub put-requires-in-loop-j : goal.put-requires-in-loop-j
-put-requires-in-loop-j c = (omega (arith, c.node_at-v.ensures.inside, c.loop-j.invariant.1.times.long), omega arith)
-
 pub hang-requires : goal.hang-requires
 hang-requires c =
     laying_x c.loop-j.invariant.1 c.node_at-v.ensures c.get-p.ensures.0
-    (backward_edge c.loop-j.invariant.0 c.loop-j-test.true c.node_at-v.ensures)
+    (backward_edge c.loop-j.invariant.0 (omega arith) c.node_at-v.ensures)
 
 pub hang-requires-in-loop-j : goal.hang-requires-in-loop-j
 hang-requires-in-loop-j c =
     laying_y c.loop-j.invariant.1 c.node_at-v.ensures c.get-p.ensures.0
-    (backward_edge c.loop-j.invariant.0 c.loop-j-test.true c.node_at-v.ensures)
-
-pub slope_before-before-requires : goal.slope_before-before-requires
-slope_before-before-requires c = backward_ready c.loop-j.invariant.0 c.loop-j-test.true
+    (backward_edge c.loop-j.invariant.0 (omega arith) c.node_at-v.ensures)
 
 pub loop-j-preserved : goal.loop-j-preserved
 loop-j-preserved c = (
-  backward_step c.loop-j.invariant.0 c.loop-j-test.true c.slope_before-before.ensures,
+  backward_step c.loop-j.invariant.0 (omega arith) c.slope_before-before.ensures,
   laying_step c.loop-j.invariant.1 c.node_at-v.ensures c.get-p.ensures.0
-      (backward_edge c.loop-j.invariant.0 c.loop-j-test.true c.node_at-v.ensures)
+      (backward_edge c.loop-j.invariant.0 (omega arith) c.node_at-v.ensures)
       c.put-in-loop-j.ensures
       c.hang.ensures c.hang-in-loop-j.ensures,
 )
 
 pub returns : goal.returns
-returns c = laying_end c.loop-j.invariant.1 c.loop-j-test.false
-
-pub bordered_at-here-requires : goal.bordered_at-here-requires
-bordered_at-here-requires c = (omega arith, omega arith, omega arith)
-
-pub bordered_at-after-requires : goal.bordered_at-after-requires
-bordered_at-after-requires c = (omega arith, omega arith, omega arith)
-
-pub get-p-requires : goal.get-p-requires
-get-p-requires c = c.node_at-v.ensures.inside
+returns c = laying_end c.loop-j.invariant.1 (omega arith)

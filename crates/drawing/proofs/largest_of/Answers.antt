@@ -1,12 +1,12 @@
--- What was found so far, and the rest of the list, have the largest.
-use Rattle.drawing.proofs.Maximum.{maximum_start, maximum_step, maximum_end}
+-- The largest of what was found so far and an item, item by item, is the largest of all.
+use Prim.Native.Nat.{max}
+use mathlib.Core.Path.{◌≡◌, ◌∙◌}
+use Rattle.std.proofs.Common.{rules}
+use Rattle.std.specs.Prelude.{fold}
+use Rattle.drawing.proofs.Maximum.{fold_largest}
 use Rattle.drawing.proofs.largest_of.Goals as goal
 
-pub loop-i-init : goal.loop-i-init
-loop-i-init c = maximum_start _
-
-pub loop-i-preserved : goal.loop-i-preserved
-loop-i-preserved c = maximum_step c.loop-i.invariant c.loop-i-test.true c.larger-most.ensures
-
 pub returns : goal.returns
-returns c = maximum_end c.loop-i.invariant c.loop-i-test.false
+returns c =
+    let run : c.fold.result ≡ fold (λ a b. max a b) 0 c.args.list.now = search rules in
+    run ∙ fold_largest c.args.list.now
