@@ -113,13 +113,12 @@ fn passes(
 {
     let n = parent.len();
     let last = get(work, v);
-    let mut j = get(work, 2 * n + v) - 1;
-    while j < last {
+    let first = get(work, 2 * n + v) - 1;
+    for j in first..last {
         let z = get(work, 3 * n + j);
         if limit < get(places, z) + d {
             return true;
         }
-        j += 1;
     }
     false
 }
@@ -140,12 +139,11 @@ fn move_subtree(
 {
     let n = parent.len();
     let last = get(work, v);
-    let mut j = get(work, 2 * n + v) - 1;
-    while j < last {
+    let first = get(work, 2 * n + v) - 1;
+    for j in first..last {
         let z = get(work, 3 * n + j);
         let place = get(places, z);
         put(places, z, changed(place, d, longer));
-        j += 1;
     }
 }
 

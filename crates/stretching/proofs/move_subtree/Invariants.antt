@@ -1,10 +1,6 @@
 -- The places of the subtree up to number j are moved.
-use Prim.Native.Nat.{◌-◌}
 use Rattle.stretching.proofs.Subtrees.{Moving}
 use Rattle.stretching.proofs.move_subtree.Given as goal
 
 abbrev pub invariant-loop-j : goal.invariant-loop-j
 invariant-loop-j l = Moving l.parent l.rank l.work l.initial.places l.v l.d l.longer l.places l.last l.j
-
-abbrev pub decreases-loop-j : goal.decreases-loop-j
-decreases-loop-j l = l.last - l.j

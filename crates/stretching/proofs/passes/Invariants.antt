@@ -1,10 +1,6 @@
 -- The places of the subtree up to number j are within the limit.
-use Prim.Native.Nat.{◌-◌}
 use Rattle.stretching.proofs.Subtrees.{Clear}
 use Rattle.stretching.proofs.passes.Given as goal
 
 abbrev pub invariant-loop-j : goal.invariant-loop-j
 invariant-loop-j l = Clear l.limit l.parent l.rank l.work l.places l.v l.d l.last l.j
-
-abbrev pub decreases-loop-j : goal.decreases-loop-j
-decreases-loop-j l = l.last - l.j
