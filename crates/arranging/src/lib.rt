@@ -86,18 +86,13 @@ fn lengthen_in_turn(
         ≡ in_turn limits parent.now rank.now rule (length work.now)
         (sheet (to_write times) (to_write x) (to_write y) (to_read held)).entry 1 lots.now counts.now }
 {
-    let m = lots.len();
-    let mut i = 0;
-    while i < m {
-        let lot = lots[i];
-        let count = counts[i];
+    for (i, (lot, count)) in lots.iter().zip(counts).enumerate() {
         let done = lengthen_edge(
-            limits, rule, parent, rank, times, x, y, held, work, lot, count,
+            limits, rule, parent, rank, times, x, y, held, work, *lot, *count,
         );
-        i += 1;
         match done {
             Validity::Refused(k, v) => {
-                return Arranged::Refused(k, v, i);
+                return Arranged::Refused(k, v, i + 1);
             }
             Validity::Accepted => {}
         }
