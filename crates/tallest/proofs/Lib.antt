@@ -1,4 +1,3 @@
-pub mod Hanging
 pub mod Answers
 pub mod ChainLaws
 pub mod TallestLaws

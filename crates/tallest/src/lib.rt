@@ -16,12 +16,9 @@ fn hang_each(parent: &mut [u32])
     requires { (0 < length parent.old) × (length parent.old < 2 ^ 32) }
     ensures { parent.new ≡ (chain_of (length parent.old)).parents }
 {
-    let n = parent.len();
     put(parent, 0, 0);
-    let mut v = 1;
-    while v < n {
+    for v in 1..parent.len() {
         put(parent, v, v - 1);
-        v += 1;
     }
 }
 
