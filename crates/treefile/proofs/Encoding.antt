@@ -2,14 +2,17 @@
 use mathlib.Core.Bool.{true, not}
 use mathlib.Core.List.{List, ◌∷◌, ◌++◌}
 use mathlib.Core.Option.{Option, none}
-use mathlib.Core.Path.{◌≡◌, refl, sym, ap, ◌∙◌}
+use mathlib.Core.Path.{◌≡◌, sym, ap, ◌∙◌}
 use Prim.Native.Nat.{ℕ, zero, suc, ◌+◌, ◌-◌, ◌*◌, ◌/◌, ◌%◌, ◌≤◌, ◌<◌}
 use native.Mathlib.Omega.{arith}
-use lib.ListN.{length, get_or, set, length-set, length-append, get_or-append}
-use lib.Seq.{ext_get_or, get_or-append-add, get_or-set_same, get_or-set_other}
+use lib.ListN.{length, get_or, length-append, get_or-append}
+use borrow.Rule.Slice.PartMut.{put_mid}
+use Rattle.std.proofs.Common.{rules}
+use Rattle.std.proofs.lemmas.List.{places}
+use lib.Seq.{ext_get_or, get_or-append-add}
 use borrow.Author.Tests.{eq-eqb, ne_eqb}
 use Rattle.laws.specs.Refusals.{or_else_first, or_else_second, refuse_yes, refuse_no}
-use Rattle.laws.specs.Regions.{Only, only_refl, only_set, only_trans, only_within}
+use Rattle.laws.specs.Regions.{Only}
 use Rattle.laws.specs.Search.{Refusal}
 use Rattle.laws.specs.Tests.{by_lt}
 use Rattle.table.specs.Acceptance.{validity-accepted, validity_refused, Accepting, accepting}
@@ -20,63 +23,27 @@ use Rattle.table.specs.Table.{table_fault}
 use Rattle.table.specs.Parts.{Validated}
 use Rattle.treefile.specs.Parts.{WordPut, Encoded}
 use Rattle.treefile.specs.Saved.{Bytes, Unsaved}
-use Rattle.treefile.proofs.FileLaws.{by-four, length_all_bytes, byte_at}
+use Rattle.treefile.proofs.FileLaws.{length_all_bytes, byte_at}
 use Rattle.treefile.specs.TreeFile.{bytes_of, all_bytes, file_of, saved, write_tree, Wrote}
 
-pub word_put : (B : List ℕ) (i w : ℕ) → i + 3 < length B
-    → WordPut B (set (set (set (set B i (w % 256)) (i + 1) (w / 256 % 256)) (i + 2) (w / 65536 % 256)) (i + 3)
-    (w / 16777216 % 256)) i w
+-- the bytes of w, copied over those from i on
+pub word_put : {C : List ℕ} (B : List ℕ) (i w : ℕ) → i + 3 < length B → C ≡ bytes_of w
+    → WordPut B (put_mid i (i + 4 - i) B C) i w
 unfolding bytes_of
-word_put B i w h = record {
-  at = by-four (λ (k : ℕ). get_or (set B₃ (i + 3) b₃) (i + k) 0 ≡ get_or (bytes_of w) k 0)
-      (get_or-set_other B₃ (i + 3) (i + 0) b₃ 0 (λ e. omega arith)
-      ∙ get_or-set_other B₂ (i + 2) (i + 0) b₂ 0 (λ e. omega arith)
-      ∙ get_or-set_other B₁ (i + 1) (i + 0) b₁ 0 (λ e. omega arith)
-      ∙ ap (λ (j : ℕ). get_or B₁ j 0) (right i)
-      ∙ get_or-set_same B i b₀ 0 (omega arith))
-      (get_or-set_other B₃ (i + 3) (i + 1) b₃ 0 (λ e. omega arith)
-      ∙ get_or-set_other B₂ (i + 2) (i + 1) b₂ 0 (λ e. omega arith)
-      ∙ get_or-set_same B₁ (i + 1) b₁ 0 (omega (arith, long₁)))
-      (get_or-set_other B₃ (i + 3) (i + 2) b₃ 0 (λ e. omega arith)
-      ∙ get_or-set_same B₂ (i + 2) b₂ 0 (omega (arith, long₂)))
-      (get_or-set_same B₃ (i + 3) b₃ 0 (omega (arith, long₃)));
-  kept = only_set (i + 3) b₃ (only_set (i + 2) b₂ (only_set (i + 1) b₁ (only_set i b₀ (only_refl i (i + 4) B)
-      (omega arith) (omega arith) refl) (omega arith) (omega arith) refl) (omega arith) (omega arith) refl)
-      (omega arith) (omega arith) refl;
+word_put {C} B i w h e = record {
+  at = λ k m. at_them k (omega arith) ∙ ap (λ (l : List ℕ). get_or l k 0) e;
+  kept = record {
+    long = search (rules, places);
+    below = λ k l. grind (arith, places);
+    above = λ k l. grind (arith, places);
+  };
 }
   where
-    b₀ : ℕ
-    b₀ = w % 256
+    four : length C ≡ 4
+    four = ap length e
 
-    b₁ : ℕ
-    b₁ = w / 256 % 256
-
-    b₂ : ℕ
-    b₂ = w / 65536 % 256
-
-    b₃ : ℕ
-    b₃ = w / 16777216 % 256
-
-    B₁ : List ℕ
-    B₁ = set B i b₀
-
-    B₂ : List ℕ
-    B₂ = set B₁ (i + 1) b₁
-
-    B₃ : List ℕ
-    B₃ = set B₂ (i + 2) b₂
-
-    long₁ : length B₁ ≡ length B
-    long₁ = simp length-set
-
-    long₂ : length B₂ ≡ length B
-    long₂ = simp length-set
-
-    long₃ : length B₃ ≡ length B
-    long₃ = simp length-set
-
-    right : (i : ℕ) → i + 0 ≡ i
-    right i = omega arith
+    at_them : (k : ℕ) → k < 4 → get_or (put_mid i (i + 4 - i) B C) (i + k) 0 ≡ get_or C k 0
+    at_them k m = grind (arith, places)
 
 ------------------------------------------------------------------------
 -- The numbers of a list, one after the other
@@ -85,28 +52,6 @@ pub record Encoding (l B C : List ℕ) (a v : ℕ) : Type 0 where
   pub upto : v ≤ length l
   pub done : (u k : ℕ) → u < v → k < 4 → get_or C (a + 4 * u + k) 0 ≡ get_or (bytes_of (get_or l u 0)) k 0
   pub kept : Only a (a + 4 * length l) B C
-
-pub encoding_start : (l B : List ℕ) (a : ℕ) → Encoding l B B a 0
-encoding_start l B a =
-    record { upto = omega arith; done = λ u k h. absurd (omega arith); kept = only_refl a (a + 4 * length l) B }
-
-pub encoding_step : {l B C D : List ℕ} {a v w : ℕ} → Encoding l B C a v → v < length l → w ≡ get_or l v 0
-    → WordPut C D (a + 4 * v) w → Encoding l B D a (v + 1)
-encoding_step {l} {B} {C} {D} {a} {v} {w} i h ew p = record {
-  upto = omega arith;
-  done = λ u k b m. by_lt u v
-      (λ c. p.kept.below (a + 4 * u + k) (omega arith) ∙ i.done u k c m)
-      (λ c.
-      ap (λ (x : ℕ). get_or D (a + 4 * x + k) 0) (last u b c) ∙ p.at k m
-      ∙ ap (λ (x : ℕ). get_or (bytes_of x) k 0) (ew ∙ ap (λ (x : ℕ). get_or l x 0) (sym (last u b c))));
-  kept = only_trans i.kept (only_within p.kept (omega arith) (omega arith));
-}
-  where
-    last : (u : ℕ) → u < v + 1 → v ≤ u → u ≡ v
-    last u b c = omega arith
-
-pub encoding_end : {l B C : List ℕ} {a v : ℕ} → Encoding l B C a v → length l ≤ v → Encoded l B C a
-encoding_end i h = record { at = λ u k b m. i.done u k (omega arith) m; kept = i.kept }
 
 ------------------------------------------------------------------------
 -- The whole file: n, the parents, the ranks

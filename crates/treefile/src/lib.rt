@@ -1,7 +1,7 @@
 // Tree files.
 #![tactic(auto)]
 
-ghost use Rattle.std.specs.Prelude.{◌≡◌, ◌+◌, ◌*◌, ◌^◌, ◌≤◌, ◌<◌, length, get_or};
+ghost use Rattle.std.specs.Prelude.{◌≡◌, ◌+◌, ◌*◌, ◌^◌, ◌≤◌, ◌<◌, length};
 ghost use Rattle.laws.specs.Regions.{Only};
 ghost use Rattle.table.specs.Counted.{counted};
 ghost use Rattle.table.specs.Table.{large};
@@ -13,22 +13,12 @@ ghost use Rattle.treefile.specs.TreeFile.{word_at, words, stated_or_zero, Read, 
 use faults::{Fault, Refusal};
 use table::Limits;
 
-// A byte as a number.
-fn byte(bytes: &[u8], i: usize) -> usize
-    requires { i < length bytes.now }
-    ensures { (result ≡ get_or bytes.now i 0) × (result < 256) }
-{
-    bytes[i] as usize
-}
-
 // The number in the 4 bytes from i on, least byte first.
 fn word(bytes: &[u8], i: usize) -> usize
     requires { i + 3 < length bytes.now }
     ensures { (result ≡ word_at bytes.now i) × (result < 2 ^ 32) }
 {
-    let low = byte(bytes, i) + 256 * byte(bytes, i + 1);
-    let high = byte(bytes, i + 2) + 256 * byte(bytes, i + 3);
-    low + 65536 * high
+    u32::from_le_bytes([bytes[i], bytes[i + 1], bytes[i + 2], bytes[i + 3]]) as usize
 }
 
 // The number of nodes that a tree file states, or 0 where it has fewer than 4 bytes.
@@ -47,12 +37,8 @@ fn decode(bytes: &[u8], a: usize, list: &mut [u32])
     requires { (a + 4 * length list.old ≤ length bytes.now) × (length list.old < 2 ^ 32) }
     ensures { list.new ≡ words bytes.now a (length list.old) }
 {
-    let n = list.len();
-    let mut v = 0;
-    while v < n {
-        let w = word(bytes, a + 4 * v);
-        table::put(list, v, w);
-        v += 1;
+    for (v, w) in list.iter_mut().enumerate() {
+        *w = word(bytes, a + 4 * v) as u32;
     }
 }
 
@@ -62,13 +48,7 @@ fn save(list: &[u32], work: &mut [u32], a: usize)
     ensures { Copied list.now work.new a
         × Only a (a + length list.now) work.old work.new }
 {
-    let n = list.len();
-    let mut i = 0;
-    while i < n {
-        let w = table::get(list, i);
-        table::put(work, a + i, w);
-        i += 1;
-    }
+    work[a..a + list.len()].copy_from_slice(list);
 }
 
 // Loads the file's table into the two lists, keeping what they held in the work list, and puts that back where the
@@ -140,10 +120,7 @@ fn put_word(bytes: &mut [u8], i: usize, w: usize)
     requires { i + 3 < length bytes.old }
     ensures { WordPut bytes.old bytes.new i w }
 {
-    bytes[i] = (w % 256) as u8;
-    bytes[i + 1] = (w / 256 % 256) as u8;
-    bytes[i + 2] = (w / 65536 % 256) as u8;
-    bytes[i + 3] = (w / 16777216 % 256) as u8;
+    bytes[i..i + 4].copy_from_slice(&w.to_le_bytes()[..4]);
 }
 
 // Writes the list's numbers from a on.
@@ -151,12 +128,8 @@ fn encode(list: &[u32], bytes: &mut [u8], a: usize)
     requires { a + 4 * length list.now ≤ length bytes.old }
     ensures { Encoded list.now bytes.old bytes.new a }
 {
-    let n = list.len();
-    let mut v = 0;
-    while v < n {
-        let w = table::get(list, v);
-        put_word(bytes, a + 4 * v, w);
-        v += 1;
+    for (v, w) in list.iter().enumerate() {
+        put_word(bytes, a + 4 * v, *w as usize);
     }
 }
 

@@ -1,11 +1,6 @@
 -- The numbers below v are written.
-use Prim.Native.Nat.{◌-◌}
-use lib.ListN.{length}
 use Rattle.treefile.proofs.Encoding.{Encoding}
 use Rattle.treefile.proofs.encode.Given as goal
 
 abbrev pub invariant-loop-v : goal.invariant-loop-v
 invariant-loop-v l = Encoding l.list l.initial.bytes l.bytes l.a l.v
-
-abbrev pub decreases-loop-v : goal.decreases-loop-v
-decreases-loop-v l = length l.list - l.v

@@ -1,17 +1,9 @@
--- Four stores, one after the other.
-use native.Mathlib.Omega.{arith}
-use lib.ListN.{length-set}
+-- The four bytes of the number, least byte first.
+use Rattle.std.proofs.Common.{◌∙◌, ap, take}
+use Rattle.treefile.specs.TreeFile.{bytes_of}
 use Rattle.treefile.proofs.Encoding.{word_put}
 use Rattle.treefile.proofs.put_word.Goals as goal
 
 pub returns : goal.returns
-returns c = word_put _ _ _ c.requires
-
-pub bounds-bytes-i-2 : goal.bounds-bytes-i-2
-bounds-bytes-i-2 c = simp length-set (omega arith)
-
-pub bounds-bytes-i-3 : goal.bounds-bytes-i-3
-bounds-bytes-i-3 c = simp length-set (omega arith)
-
-pub bounds-bytes-i-4 : goal.bounds-bytes-i-4
-bounds-bytes-i-4 c = simp length-set (omega arith)
+unfolding bytes_of
+returns c = word_put _ _ _ c.requires (c.copy_from_slice.ensures.after ∙ ap (take 4) c.to_le_bytes.ensures)

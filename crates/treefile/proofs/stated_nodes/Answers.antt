@@ -1,6 +1,5 @@
 -- By the test on the length.
 use mathlib.Core.Path.{refl}
-use borrow.Author.Rules.{rules}
 use borrow.Author.Tests.{lt-ltb, le-ltb}
 use Rattle.treefile.specs.TreeFile.{stated_nodes, stated_or_zero}
 use Rattle.treefile.proofs.stated_nodes.Goals as goal
@@ -8,12 +7,6 @@ use Rattle.treefile.proofs.stated_nodes.Goals as goal
 pub returns-then-size-lt4 : goal.returns-then-size-lt4
 unfolding stated_or_zero
 returns-then-size-lt4 c = rw (lt-ltb _ 4 c.if-size-lt4.true) refl
-
-pub word-requires : goal.word-requires
-word-requires c = search rules
-
-pub overflow_cast-result : goal.overflow_cast-result
-overflow_cast-result c = search rules
 
 pub returns : goal.returns
 unfolding stated_or_zero stated_nodes
