@@ -1,39 +1,12 @@
 -- Writing words and lines one after the other.
-use mathlib.Core.List.{List, [], ◌∷◌, ◌++◌, append_assoc}
-use mathlib.Core.Path.{◌≡◌, sym, ap, ◌∙◌}
+use mathlib.Core.List.{List, append_assoc}
+use mathlib.Core.Path.{◌≡◌, ap}
 use Prim.Native.Nat.{ℕ, suc, ◌+◌, ◌≤◌, ◌<◌}
 use native.Mathlib.Omega.{arith}
-use lib.ListN.{length, get_or, take, length-append}
-use lib.Seq.{take-suc, take_all}
+use lib.ListN.{length, get_or, length-append}
 use Rattle.text.specs.Text.{field, Places, lot_line, lot_lines, sheet_of, sheet_word, Appended}
 use Rattle.text.proofs.TextLaws.{length-field, length-lot_lines, appended_none, appended_on, appended_is}
 use Rattle.text.specs.Parts.{line_of, title_of, Lines}
-
-------------------------------------------------------------------------
--- A word
-
-pub record Copying (A B word : List ℕ) (at e i : ℕ) : Type 0 where
-  pub upto : i ≤ length word
-  pub ends : e ≡ at + i
-  pub text : Appended A B at e (take i word)
-
-pub copying_start : (A word : List ℕ) (at : ℕ) → Copying A A word at at 0
-copying_start A word at = record { upto = omega arith; ends = omega arith; text = appended_none A at }
-
-pub copying_step : {A B C word : List ℕ} {at e f i b : ℕ} → Copying A B word at e i → i < length word
-    → b ≡ get_or word i 0 → Appended B C e f (b ∷ []) → Copying A C word at f (i + 1)
-copying_step {A} {B} {C} {word} {at} {e} {f} {i} c h eb a = record {
-  upto = omega arith;
-  ends = omega arith;
-  text = appended_is (appended_on c.text a)
-      (ap (λ (x : ℕ). take i word ++ (x ∷ [])) eb ∙ sym (take-suc word i 0 h) ∙ ap (λ (k : ℕ). take k word) (next i));
-}
-  where
-    next : (i : ℕ) → suc i ≡ i + 1
-    next i = omega arith
-
-pub copying_end : {A B word : List ℕ} {at e i : ℕ} → Copying A B word at e i → length word ≤ i → Appended A B at e word
-copying_end {word = word} {i = i} c h = appended_is c.text (take_all i word h)
 
 ------------------------------------------------------------------------
 -- Lines

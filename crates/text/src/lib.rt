@@ -7,8 +7,6 @@ ghost use Rattle.std.specs.Prelude.{[], ◌∷◌, ◌≡◌, ◌+◌, ◌*◌, 
 ghost use Rattle.text.specs.Text.{decimal, field, lot_lines, sheet_of, refusal_of, Appended};
 ghost use Rattle.text.specs.Parts.{Unit, line_of, title_of, places_of, Lines};
 
-use table::get;
-
 // Puts one byte.
 fn put_byte(out: &mut [u8], at: usize, b: u8) -> usize
     requires { at < length out.old }
@@ -23,12 +21,8 @@ fn put_word(out: &mut [u8], at: usize, word: &[u8]) -> usize
     requires { at + length word.now ≤ length out.old }
     ensures { Appended out.old out.new at result word.now }
 {
-    let mut e = at;
-    let mut i = 0;
-    while i < word.len() {
-        e = put_byte(out, e, word[i]);
-        i += 1;
-    }
+    let e = at + word.len();
+    out[at..e].copy_from_slice(word);
     e
 }
 
@@ -78,16 +72,16 @@ fn put_field(out: &mut [u8], at: usize, n: usize, after: u8) -> usize
 }
 
 // Puts the line of a lot: five numbers.
-fn put_line(out: &mut [u8], at: usize, v: usize, a: usize, b: usize, c: usize, d: usize) -> usize
+fn put_line(out: &mut [u8], at: usize, v: usize, a: u32, b: u32, c: u32, d: u32) -> usize
     requires { (at + 55 ≤ length out.old) × (v < 10 ^ 10) × (a < 10 ^ 10) × (b < 10 ^ 10) × (c < 10 ^ 10)
         × (d < 10 ^ 10) }
     ensures { Appended out.old out.new at result (line_of v a b c d) }
 {
     let first = put_field(out, at, v, b' ');
-    let second = put_field(out, first, a, b' ');
-    let third = put_field(out, second, b, b' ');
-    let fourth = put_field(out, third, c, b' ');
-    put_field(out, fourth, d, b'\n')
+    let second = put_field(out, first, a as usize, b' ');
+    let third = put_field(out, second, b as usize, b' ');
+    let fourth = put_field(out, third, c as usize, b' ');
+    put_field(out, fourth, d as usize, b'\n')
 }
 
 // Puts a refusal at the start and returns its length.
@@ -116,12 +110,9 @@ fn put_lines(out: &mut [u8], at: usize, x: &[u32], y: &[u32], u: &[u32], w: &[u3
         (lot_lines (places_of x.now y.now u.now w.now)
         (length x.now)) }
 {
-    let n = x.len();
     let mut e = at;
-    let mut v = 0;
-    while v < n {
-        e = put_line(out, e, v, get(x, v), get(y, v), get(u, v), get(w, v));
-        v += 1;
+    for v in 0..x.len() {
+        e = put_line(out, e, v, x[v], y[v], u[v], w[v]);
     }
     e
 }
