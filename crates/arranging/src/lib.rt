@@ -90,14 +90,12 @@ fn lengthen_in_turn(
         let done = lengthen_edge(
             limits, rule, parent, rank, times, x, y, held, work, *lot, *count,
         );
-        match done {
-            Validity::Refused(k, v) => {
-                return Arranged::Refused(k, v, i + 1);
-            }
-            Validity::Accepted => {}
+        if let Err(refusal) = done {
+            let place = i + 1;
+            return Err(Stopped { refusal, place });
         }
     }
-    at_place(frame_of(x, y), 0)
+    Ok(frame_of(x, y))
 }
 
 // Lengthen each at any limits whose frames are numbers of 32 bits.

@@ -7,10 +7,9 @@ use Prim.Native.Nat.{ℕ, ◌+◌, ◌*◌, ◌≤◌, ◌<◌}
 use native.Mathlib.Omega.{arith}
 use lib.ListN.{length, get_or}
 use Rattle.faults.specs.Numbers.{number}
-use Rattle.laws.specs.Refusals.{refusal, or_else_first, or_else_second, refuse_least_yes, refuse_least_no}
+use Rattle.laws.specs.Refusals.{refusal, or_else_first, or_else_second, refuse_least-none}
 use Rattle.laws.specs.Regions.{Only}
-use Rattle.laws.specs.Search.{least, Refusal}
-use Rattle.laws.specs.SearchLaws.{least-none}
+use Rattle.laws.specs.Search.{Refusal, refuse_least}
 use Rattle.table.specs.Acceptance.{Accepting, accepting, two_long, not_spared, validity-accepted, validity_refused}
 use Rattle.table.specs.declared.Limits.{Limits}
 use Rattle.table.specs.Validity.{Accepted, Refused}
@@ -103,46 +102,46 @@ module _ (x y : List ℕ) {L : Limits} {P R : List ℕ} {long : Bool} {W X : Lis
     pub few_nodes : L.nodes ≤ large.nodes → length P ≤ large.nodes
     few_nodes nodes = omega (arith, known.shape.few)
 
-    module _ {v : ℕ} (far : v ≡ least (place_beyond L.place x y) (length x)) where
-      far_is : v ≡ least (place_beyond L.place x y) (length P)
-      far_is = far ∙ ap (least (place_beyond L.place x y)) x_long
+    -- the nodes of x are those of P
+    over : refuse_least (number L.far) (length x) (place_beyond L.place x y)
+        ≡ refuse_least (number L.far) (length P) (place_beyond L.place x y)
+    over = ap (λ n. refuse_least (number L.far) n (place_beyond L.place x y)) x_long
 
-      -- refusal 15
-      pub checked_far : {Y : List ℕ} → length Y ≡ length W → v < length P → Checked L P R x y W Y (verdict.Refused
-          (number L.far) v)
-      unfolding Says check_fault
-      checked_far same l = record {
-        says = or_else_second _ _ accepted ∙ refuse_least_yes (number L.far) (length P) (place_beyond L.place x y) v far_is l;
-        spared = passed;
-        long = same;
+    -- refusal 15
+    pub checked_far : {Y : List ℕ} {k v : ℕ} → length Y ≡ length W
+        → refuse_least (number L.far) (length x) (place_beyond L.place x y) ≡ refusal k v
+        → Checked L P R x y W Y (verdict.Refused k v)
+    unfolding Says check_fault
+    checked_far same is = record {
+      says = or_else_second _ _ accepted ∙ sym over ∙ is;
+      spared = passed;
+      long = same;
+    }
+
+    module _ (near : refuse_least (number L.far) (length x) (place_beyond L.place x y) ≡ none) where
+      no_fault : check_fault L P R x y (length W) ≡ none
+      unfolding check_fault
+      no_fault = or_else_second _ _ accepted ∙ sym over ∙ near
+
+      -- no refusal
+      pub checked-found : {Y : List ℕ} → length Y ≡ length W → (r : Verdict) → Found P x y r → Checked L P R x y W Y r
+      unfolding Says
+      checked-found same r f = record { says = says r f; spared = passed; long = same }
+        where
+          says : (r : Verdict) → Found P x y r → Says L P R x y (length W) r
+          says verdict.Monotone f = (no_fault, f)
+          says (verdict.Turns u w) f = (no_fault, f)
+          says (verdict.Refused k w) f = absurd f
+
+      within : (w : ℕ) → w < length P → (get_or x w 0 ≤ L.place) × (get_or y w 0 ≤ L.place)
+      within w l =
+          both-within L.place x y w
+          (refuse_least-none (number L.far) (length P) (place_beyond L.place x y) (sym over ∙ near) w l)
+
+      pub judged : L.nodes ≤ large.nodes → L.place ≤ farthest → Judged P R x y X
+      judged nodes place = record {
+        ready = ready t (omega arith) refl;
+        few = few_nodes nodes;
+        across = record { inside = known.tree.inside; long = x_long; within = λ w l. omega (arith, (within w l).0) };
+        up = record { inside = known.tree.inside; long = y_long; within = λ w l. omega (arith, (within w l).1) };
       }
-
-      module _ (near : length P ≤ v) where
-        no_fault : check_fault L P R x y (length W) ≡ none
-        unfolding check_fault
-        no_fault =
-            or_else_second _ _ accepted
-            ∙ refuse_least_no (number L.far) (length P) (place_beyond L.place x y) v far_is near
-
-        -- no refusal
-        pub checked-found : {Y : List ℕ} → length Y ≡ length W → (r : Verdict) → Found P x y r → Checked L P R x y W Y r
-        unfolding Says
-        checked-found same r f = record { says = says r f; spared = passed; long = same }
-          where
-            says : (r : Verdict) → Found P x y r → Says L P R x y (length W) r
-            says verdict.Monotone f = (no_fault, f)
-            says (verdict.Turns u w) f = (no_fault, f)
-            says (verdict.Refused k w) f = absurd f
-
-        within : (w : ℕ) → w < length P → (get_or x w 0 ≤ L.place) × (get_or y w 0 ≤ L.place)
-        within w l =
-            both-within L.place x y w (least-none (place_beyond L.place x y) (length P) (omega
-            (arith, far_is)) w l)
-
-        pub judged : L.nodes ≤ large.nodes → L.place ≤ farthest → Judged P R x y X
-        judged nodes place = record {
-          ready = ready t (omega arith) refl;
-          few = few_nodes nodes;
-          across = record { inside = known.tree.inside; long = x_long; within = λ w l. omega (arith, (within w l).0) };
-          up = record { inside = known.tree.inside; long = y_long; within = λ w l. omega (arith, (within w l).1) };
-        }

@@ -8,7 +8,7 @@
 // away from u.
 #![tactic(auto)]
 
-ghost use Rattle.std.specs.Prelude.{List, ◌≡◌, ℕ, ◌+◌, ◌-◌, ◌*◌, ◌≤◌, ◌<◌, length, get_or, set};
+ghost use Rattle.std.specs.Prelude.{List, ◌≡◌, ℕ, ◌+◌, ◌-◌, ◌*◌, ◌^◌, ◌≤◌, ◌<◌, length, get_or, set};
 ghost use Rattle.laws.specs.Regions.{Only};
 ghost use Rattle.faults.specs.Numbers.{number};
 ghost use Rattle.laws.specs.Search.{refuse_least};
@@ -291,7 +291,9 @@ fn test_places(limits: Limits, x: &[u32], y: &[u32]) -> Result<(), Refusal>
 {
     let most = limits.place as usize;
     for v in 0..x.len() {
-        if most < get(x, v) || most < get(y, v) {
+        let across = get(x, v);
+        let up = get(y, v);
+        if most < across || most < up {
             return Err(limits.far.at(v));
         }
     }

@@ -15,5 +15,5 @@ returns-in_err-test_lengths c =
 
 pub returns : goal.returns
 returns c =
-    listed_19 _ _ _ _ _ _ _ _ c.if-lots-counts.false c.all_long-long.ensures
-    c.in_ok-test_lengths.ensures refl
+    rw c.at.ensures (listed_19 _ _ _ _ _ _ _ _ c.if-lots-counts.false c.all_long-long.ensures
+    c.in_ok-test_lengths.ensures refl)

@@ -1,36 +1,35 @@
 -- Each answer is a case of the definition: a refusal of the table, one of a place, or what the pairs say.
-use mathlib.Core.Path.{sym, ◌∙◌}
-use native.Mathlib.Omega.{arith}
-use borrow.Author.Rules.{rules}
+use Rattle.std.proofs.Common.{sym, ◌∙◌, arith, rules}
+use Rattle.std.proofs.lemmas.Result.{err_from_is_err_and}
+use Rattle.table.specs.Acceptance.{validity-accepted, validity_refused}
+use Rattle.monotone.specs.Verdict.{found}
 use Rattle.monotone.proofs.Judging.{checked_table, checked_far, checked-found, judged, x_long, y_long, few_nodes}
 use Rattle.monotone.proofs.check_within.Goals as goal
 
-pub first_beyond-v-requires : goal.first_beyond-v-requires
-first_beyond-v-requires c =
-    y_long c.args.x.now c.args.y.now c.both_long-long.ensures c.in-Accepted.ensures
-    ∙ sym (x_long c.args.x.now c.args.y.now c.both_long-long.ensures c.in-Accepted.ensures)
+pub returns-in_err-validate : goal.returns-in_err-validate
+returns-in_err-validate c =
+    let p = err_from_is_err_and c.from_residual.result c.from_residual.ensures.1 in
+    rw (p.1, p.2) (checked_table c.args.x.now c.args.y.now c.both_long-long.ensures c.in_err-validate.ensures)
 
-pub overflow_cast-result : goal.overflow_cast-result
-overflow_cast-result c =
-    let few = few_nodes c.args.x.now c.args.y.now c.both_long-long.ensures c.in-Accepted.ensures c.requires.0 in
-    omega arith
+pub test_places-requires : goal.test_places-requires
+test_places-requires c =
+    let few = few_nodes c.args.x.now c.args.y.now c.both_long-long.ensures c.in_ok-validate.ensures c.requires.0 in
+    let long = x_long c.args.x.now c.args.y.now c.both_long-long.ensures c.in_ok-validate.ensures in
+    (y_long c.args.x.now c.args.y.now c.both_long-long.ensures c.in_ok-validate.ensures ∙ sym long, omega arith)
 
-pub returns-then-v-n : goal.returns-then-v-n
-returns-then-v-n c =
-    checked_far c.args.x.now c.args.y.now c.both_long-long.ensures c.in-Accepted.ensures c.first_beyond-v.ensures
-    (search rules) c.if-v-n.true
+pub returns-in_err-test_places : goal.returns-in_err-test_places
+returns-in_err-test_places c =
+    let p = err_from_is_err_and c.from_residual-in_err-test_places.result
+    c.from_residual-in_err-test_places.ensures.1 in
+    rw (p.1, p.2) (checked_far c.args.x.now c.args.y.now c.both_long-long.ensures c.in_ok-validate.ensures
+    (search rules) (validity_refused _ _ _ (sym c.in_err-test_places.ensures)))
 
 pub judge-requires : goal.judge-requires
 judge-requires c =
-    judged c.args.x.now c.args.y.now c.both_long-long.ensures c.in-Accepted.ensures
-    c.first_beyond-v.ensures
-    c.if-v-n.false c.requires.0 c.requires.1
+    judged c.args.x.now c.args.y.now c.both_long-long.ensures c.in_ok-validate.ensures
+    (validity-accepted _ (sym c.in_ok-test_places.ensures)) c.requires.0 c.requires.1
 
-pub returns-in-Refused : goal.returns-in-Refused
-returns-in-Refused c =
-    checked_table c.args.x.now c.args.y.now c.both_long-long.ensures c.in-Refused.ensures
-
-pub returns-else-v-n : goal.returns-else-v-n
-returns-else-v-n c =
-    checked-found c.args.x.now c.args.y.now c.both_long-long.ensures c.in-Accepted.ensures c.first_beyond-v.ensures
-    c.if-v-n.false (search rules) c.judge.result c.judge.ensures
+pub returns : goal.returns
+returns c =
+    checked-found c.args.x.now c.args.y.now c.both_long-long.ensures c.in_ok-validate.ensures
+    (validity-accepted _ (sym c.in_ok-test_places.ensures)) (search rules) (found c.judge.result) c.judge.ensures

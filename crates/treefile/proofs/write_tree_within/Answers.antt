@@ -1,27 +1,29 @@
 -- An accepted table's file, number by number.
-use native.Mathlib.Omega.{arith}
+use Rattle.std.proofs.Common.{refl, arith}
+use Rattle.std.proofs.lemmas.Result.{err_from_is_err_and}
 use Rattle.treefile.proofs.Encoding.{accepted, wrote_refused, wrote_17, wrote_file, file_written}
 use Rattle.treefile.proofs.write_tree_within.Goals as goal
 
-pub returns-then-bytes-n : goal.returns-then-bytes-n
-returns-then-bytes-n c = wrote_17 c.validate.ensures c.in-Accepted.is _ c.if-bytes-n.true
+pub returns-in_err-validate : goal.returns-in_err-validate
+returns-in_err-validate c =
+    let p = err_from_is_err_and c.from_residual.result c.from_residual.ensures.1 in
+    rw (p.1, p.2) (wrote_refused c.in_err-validate.ensures _ refl)
 
-pub encode-requires-in-Accepted : goal.encode-requires-in-Accepted
-encode-requires-in-Accepted c =
+pub returns-then-bytes-n : goal.returns-then-bytes-n
+returns-then-bytes-n c = rw c.at.ensures (wrote_17 c.in_ok-validate.ensures refl _ c.if-bytes-n.true)
+
+pub encode-requires-2 : goal.encode-requires-2
+encode-requires-2 c =
     omega (
       arith,
       c.if-bytes-n.false,
       c.put_word.ensures.kept.long,
       c.encode.ensures.kept.long,
-      (accepted c.validate.ensures c.in-Accepted.is).shape.ranks,
+      (accepted c.in_ok-validate.ensures refl).shape.ranks,
     )
 
-pub returns-else-bytes-n : goal.returns-else-bytes-n
-returns-else-bytes-n c =
-    wrote_file c.validate.ensures c.in-Accepted.is _ _
-    c.if-bytes-n.false (file_written (accepted c.validate.ensures
-    c.in-Accepted.is).shape.ranks c.if-bytes-n.false
-    c.put_word.ensures c.encode.ensures c.encode-in-Accepted.ensures)
-
-pub returns-in-Refused : goal.returns-in-Refused
-returns-in-Refused c = wrote_refused c.validate.ensures _ c.in-Refused.is
+pub returns : goal.returns
+returns c =
+    wrote_file c.in_ok-validate.ensures refl _ _ c.if-bytes-n.false
+    (file_written (accepted c.in_ok-validate.ensures refl).shape.ranks c.if-bytes-n.false
+    c.put_word.ensures c.encode.ensures c.encode-2.ensures)
