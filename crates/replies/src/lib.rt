@@ -3,18 +3,25 @@
 #![tactic(auto)]
 
 ghost use Rattle.std.specs.Prelude.{[], ◌∷◌, ◌≡◌, ◌^◌, ◌<◌, pos, length};
-ghost use Rattle.replies.specs.Replies.{three, counted_reply, framed_reply, heading_reply, verdict_reply, saved_reply};
+ghost use Rattle.faults.specs.Numbers.{number};
+ghost use Rattle.table.specs.Counted.{counted};
+ghost use Rattle.drawing.specs.Framed.{framed};
+ghost use Rattle.arranging.specs.Arranged.{arranged};
+ghost use Rattle.aligning.specs.Aligned.{aligned};
+ghost use Rattle.direction.specs.Heading.{heading};
+ghost use Rattle.monotone.specs.Verdict.{verdict};
+ghost use Rattle.treefile.specs.Saved.{saved};
+ghost use Rattle.window.specs.View.{view};
+ghost use Rattle.replies.specs.Replies.{three, refused_reply, counted_reply, framed_reply, heading_reply, verdict_reply, saved_reply};
 ghost use Rattle.replies.specs.Replies.{four, arranged_reply, aligned_reply, screen, view_reply};
 ghost use Rattle.replies.specs.Replies.{Short, Near};
 
-use aligning::Aligned;
-use arranging::Arranged;
-use direction::Heading;
-use drawing::Framed;
-use monotone::Verdict;
-use table::Counted;
-use treefile::Saved;
-use window::{Point, View};
+use arranging::Stopped;
+use direction::Along;
+use drawing::Frame;
+use faults::Refusal;
+use monotone::Finding;
+use window::Point;
 
 // Writes the reply.
 fn put_three(reply: &mut [i64], a: i64, b: i64, c: i64)
@@ -42,23 +49,31 @@ fn put_along(reply: &mut [i64], d: i32, e: i32)
     put_three(reply, 1, d as i64, e as i64);
 }
 
-pub fn put_counted(reply: &mut [i64], answer: Counted)
+// Writes the reply of a refusal.
+fn put_refusal(reply: &mut [i64], refusal: Refusal)
     requires { length reply.old ≡ 3 }
-    ensures { reply.new ≡ counted_reply answer }
+    ensures { reply.new ≡ refused_reply (number refusal.fault) refusal.lot }
+{
+    put_numbers(reply, 0, refusal.fault.number(), refusal.lot);
+}
+
+pub fn put_counted(reply: &mut [i64], answer: Result<u32, Refusal>)
+    requires { length reply.old ≡ 3 }
+    ensures { reply.new ≡ counted_reply (counted answer) }
 {
     match answer {
-        Counted::Nodes(n) => put_numbers(reply, 1, n, 0),
-        Counted::Refused(number, node) => put_numbers(reply, 0, number, node),
+        Ok(n) => put_numbers(reply, 1, n, 0),
+        Err(refusal) => put_refusal(reply, refusal),
     }
 }
 
-pub fn put_framed(reply: &mut [i64], answer: Framed)
+pub fn put_framed(reply: &mut [i64], answer: Result<Frame, Refusal>)
     requires { length reply.old ≡ 3 }
-    ensures { reply.new ≡ framed_reply answer }
+    ensures { reply.new ≡ framed_reply (framed answer) }
 {
     match answer {
-        Framed::Frame(width, height) => put_numbers(reply, 1, width, height),
-        Framed::Refused(number, node) => put_numbers(reply, 0, number, node),
+        Ok(frame) => put_numbers(reply, 1, frame.width, frame.height),
+        Err(refusal) => put_refusal(reply, refusal),
     }
 }
 
@@ -73,55 +88,61 @@ fn put_four(reply: &mut [i64], a: u32, b: u32, c: u32, d: usize)
     reply[3] = d as i64;
 }
 
-pub fn put_arranged(reply: &mut [i64], answer: Arranged)
-    requires { (length reply.old ≡ 4) × Near answer }
-    ensures { reply.new ≡ arranged_reply answer }
+pub fn put_arranged(reply: &mut [i64], answer: Result<Frame, Stopped>)
+    requires { (length reply.old ≡ 4) × Near (arranged answer) }
+    ensures { reply.new ≡ arranged_reply (arranged answer) }
 {
     match answer {
-        Arranged::Frame(width, height) => put_four(reply, 1, width, height, 0),
-        Arranged::Refused(number, lot, place) => put_four(reply, 0, number, lot, place),
+        Ok(frame) => put_four(reply, 1, frame.width, frame.height, 0),
+        Err(Stopped { refusal, place }) => put_four(
+            reply,
+            0,
+            refusal.fault.number(),
+            refusal.lot,
+            place,
+        ),
     }
 }
 
-pub fn put_aligned(reply: &mut [i64], answer: Aligned)
+pub fn put_aligned(reply: &mut [i64], answer: Result<Option<u32>, Refusal>)
     requires { length reply.old ≡ 3 }
-    ensures { reply.new ≡ aligned_reply answer }
+    ensures { reply.new ≡ aligned_reply (aligned answer) }
 {
     match answer {
-        Aligned::Count(count) => put_numbers(reply, 1, count, 0),
-        Aligned::None => put_numbers(reply, 2, 0, 0),
-        Aligned::Refused(number, node) => put_numbers(reply, 0, number, node),
+        Ok(Some(count)) => put_numbers(reply, 1, count, 0),
+        Ok(None) => put_numbers(reply, 2, 0, 0),
+        Err(refusal) => put_refusal(reply, refusal),
     }
 }
 
-pub fn put_heading(reply: &mut [i64], answer: Heading)
+pub fn put_heading(reply: &mut [i64], answer: Result<Along, Refusal>)
     requires { length reply.old ≡ 3 }
-    ensures { reply.new ≡ heading_reply answer }
+    ensures { reply.new ≡ heading_reply (heading answer) }
 {
     match answer {
-        Heading::Along(d, e) => put_along(reply, d, e),
-        Heading::Refused(number, node) => put_numbers(reply, 0, number, node),
+        Ok(along) => put_along(reply, along.across, along.up),
+        Err(refusal) => put_refusal(reply, refusal),
     }
 }
 
-pub fn put_verdict(reply: &mut [i64], answer: Verdict)
+pub fn put_verdict(reply: &mut [i64], answer: Result<Finding, Refusal>)
     requires { length reply.old ≡ 3 }
-    ensures { reply.new ≡ verdict_reply answer }
+    ensures { reply.new ≡ verdict_reply (verdict answer) }
 {
     match answer {
-        Verdict::Monotone => put_numbers(reply, 1, 0, 0),
-        Verdict::Turns(u, v) => put_numbers(reply, 2, u, v),
-        Verdict::Refused(number, node) => put_numbers(reply, 0, number, node),
+        Ok(Finding::Monotone) => put_numbers(reply, 1, 0, 0),
+        Ok(Finding::Turns(u, v)) => put_numbers(reply, 2, u, v),
+        Err(refusal) => put_refusal(reply, refusal),
     }
 }
 
-pub fn put_saved(reply: &mut [i64], answer: Saved)
-    requires { (length reply.old ≡ 3) × Short answer }
-    ensures { reply.new ≡ saved_reply answer }
+pub fn put_saved(reply: &mut [i64], answer: Result<usize, Refusal>)
+    requires { (length reply.old ≡ 3) × Short (saved answer) }
+    ensures { reply.new ≡ saved_reply (saved answer) }
 {
     match answer {
-        Saved::Bytes(bytes) => put_numbers(reply, 1, bytes as u32, 0),
-        Saved::Unsaved(number, node) => put_numbers(reply, 0, number, node),
+        Ok(bytes) => put_numbers(reply, 1, bytes as u32, 0),
+        Err(refusal) => put_refusal(reply, refusal),
     }
 }
 
@@ -134,16 +155,16 @@ fn put_point(point: &mut [f64], p: Point)
     point[1] = p.up;
 }
 
-pub fn put_view(point: &mut [f64], reply: &mut [i64], answer: View)
+pub fn put_view(point: &mut [f64], reply: &mut [i64], answer: Result<Option<Point>, Refusal>)
     requires { (length point.old ≡ 2) × (length reply.old ≡ 3) }
-    ensures { screen point.new reply.new ≡ view_reply point.old answer }
+    ensures { screen point.new reply.new ≡ view_reply point.old (view answer) }
 {
     match answer {
-        View::Shown(p) => {
+        Ok(Some(p)) => {
             put_point(point, p);
             put_numbers(reply, 1, 0, 0);
         }
-        View::Outside => put_numbers(reply, 2, 0, 0),
-        View::Refused(number, node) => put_numbers(reply, 0, number, node),
+        Ok(None) => put_numbers(reply, 2, 0, 0),
+        Err(refusal) => put_refusal(reply, refusal),
     }
 }

@@ -1,16 +1,17 @@
 -- Arm by arm, the three numbers of a count, or of none.
 use mathlib.Core.Path.{sym, ap, ◌∙◌}
+use Rattle.aligning.specs.Aligned.{aligned}
 use Rattle.replies.specs.Replies.{aligned_reply}
 use Rattle.replies.proofs.put_aligned.Goals as goal
 
-pub returns-in-Count : goal.returns-in-Count
+pub returns-in-Ok-Some : goal.returns-in-Ok-Some
 unfolding aligned_reply
-returns-in-Count c = c.put_numbers.ensures ∙ ap aligned_reply (sym c.in-Count.is)
+returns-in-Ok-Some c = c.put_numbers.ensures ∙ ap (λ a. aligned_reply (aligned a)) (sym c.in-Ok-Some.is)
 
-pub returns-in-None : goal.returns-in-None
+pub returns-in-Ok-None : goal.returns-in-Ok-None
 unfolding aligned_reply
-returns-in-None c = c.put_numbers-in-None.ensures ∙ ap aligned_reply (sym c.in-None.is)
+returns-in-Ok-None c = c.put_numbers-in-Ok-None.ensures ∙ ap (λ a. aligned_reply (aligned a)) (sym c.in-Ok-None.is)
 
-pub returns-in-Refused : goal.returns-in-Refused
+pub returns-in-Err : goal.returns-in-Err
 unfolding aligned_reply
-returns-in-Refused c = c.put_numbers-in-Refused.ensures ∙ ap aligned_reply (sym c.in-Refused.is)
+returns-in-Err c = c.put_refusal.ensures ∙ ap (λ a. aligned_reply (aligned a)) (sym c.in-Err.is)

@@ -1,12 +1,13 @@
 -- Arm by arm, the three numbers of a number of nodes or a refusal.
 use mathlib.Core.Path.{sym, ap, ◌∙◌}
+use Rattle.table.specs.Counted.{counted}
 use Rattle.replies.specs.Replies.{counted_reply}
 use Rattle.replies.proofs.put_counted.Goals as goal
 
-pub returns-in-Nodes : goal.returns-in-Nodes
+pub returns-in-Ok : goal.returns-in-Ok
 unfolding counted_reply
-returns-in-Nodes c = c.put_numbers.ensures ∙ ap counted_reply (sym c.in-Nodes.is)
+returns-in-Ok c = c.put_numbers.ensures ∙ ap (λ a. counted_reply (counted a)) (sym c.in-Ok.is)
 
-pub returns-in-Refused : goal.returns-in-Refused
+pub returns-in-Err : goal.returns-in-Err
 unfolding counted_reply
-returns-in-Refused c = c.put_numbers-in-Refused.ensures ∙ ap counted_reply (sym c.in-Refused.is)
+returns-in-Err c = c.put_refusal.ensures ∙ ap (λ a. counted_reply (counted a)) (sym c.in-Err.is)

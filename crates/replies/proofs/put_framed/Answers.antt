@@ -1,12 +1,13 @@
 -- Arm by arm, the three numbers of a frame or a refusal.
 use mathlib.Core.Path.{sym, ap, ◌∙◌}
+use Rattle.drawing.specs.Framed.{framed}
 use Rattle.replies.specs.Replies.{framed_reply}
 use Rattle.replies.proofs.put_framed.Goals as goal
 
-pub returns-in-Frame : goal.returns-in-Frame
+pub returns-in-Ok : goal.returns-in-Ok
 unfolding framed_reply
-returns-in-Frame c = c.put_numbers.ensures ∙ ap framed_reply (sym c.in-Frame.is)
+returns-in-Ok c = c.put_numbers.ensures ∙ ap (λ a. framed_reply (framed a)) (sym c.in-Ok.is)
 
-pub returns-in-Refused : goal.returns-in-Refused
+pub returns-in-Err : goal.returns-in-Err
 unfolding framed_reply
-returns-in-Refused c = c.put_numbers-in-Refused.ensures ∙ ap framed_reply (sym c.in-Refused.is)
+returns-in-Err c = c.put_refusal.ensures ∙ ap (λ a. framed_reply (framed a)) (sym c.in-Err.is)

@@ -1,16 +1,17 @@
 -- Arm by arm, the three numbers of a verdict.
 use mathlib.Core.Path.{sym, ap, ◌∙◌}
+use Rattle.monotone.specs.Verdict.{verdict}
 use Rattle.replies.specs.Replies.{verdict_reply}
 use Rattle.replies.proofs.put_verdict.Goals as goal
 
-pub returns-in-Monotone : goal.returns-in-Monotone
+pub returns-in-Ok-Monotone : goal.returns-in-Ok-Monotone
 unfolding verdict_reply
-returns-in-Monotone c = c.put_numbers.ensures ∙ ap verdict_reply (sym c.in-Monotone.is)
+returns-in-Ok-Monotone c = c.put_numbers.ensures ∙ ap (λ a. verdict_reply (verdict a)) (sym c.in-Ok-Monotone.is)
 
-pub returns-in-Turns : goal.returns-in-Turns
+pub returns-in-Ok-Turns : goal.returns-in-Ok-Turns
 unfolding verdict_reply
-returns-in-Turns c = c.put_numbers-in-Turns.ensures ∙ ap verdict_reply (sym c.in-Turns.is)
+returns-in-Ok-Turns c = c.put_numbers-in-Ok-Turns.ensures ∙ ap (λ a. verdict_reply (verdict a)) (sym c.in-Ok-Turns.is)
 
-pub returns-in-Refused : goal.returns-in-Refused
+pub returns-in-Err : goal.returns-in-Err
 unfolding verdict_reply
-returns-in-Refused c = c.put_numbers-in-Refused.ensures ∙ ap verdict_reply (sym c.in-Refused.is)
+returns-in-Err c = c.put_refusal.ensures ∙ ap (λ a. verdict_reply (verdict a)) (sym c.in-Err.is)
