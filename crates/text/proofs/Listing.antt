@@ -1,21 +1,26 @@
 -- Writing words and lines one after the other.
-use mathlib.Core.List.{List, append_assoc}
-use mathlib.Core.Path.{◌≡◌, ap}
+use mathlib.Core.List.{List, ◌++◌, append_assoc}
+use mathlib.Core.Path.{◌≡◌, ap, ◌∙◌}
 use Prim.Native.Nat.{ℕ, suc, ◌+◌, ◌≤◌, ◌<◌}
 use native.Mathlib.Omega.{arith}
 use lib.ListN.{length, get_or, length-append}
 use Rattle.text.specs.Text.{field, Places, lot_line, lot_lines, sheet_of, sheet_word, Appended}
 use Rattle.text.proofs.TextLaws.{length-field, length-lot_lines, appended_none, appended_on, appended_is}
 use Rattle.text.specs.Parts.{line_of, title_of, Lines}
+use Rattle.text.specs.Writing.{Puts}
+use Rattle.text.specs.declared.Writer.{Writer}
+
+------------------------------------------------------------------------
+-- One text after another
+
+pub puts_on : {s t u : Writer} {T U : List ℕ} → Puts s t T → Puts t u U → Puts s u (T ++ U)
+puts_on p q = record { text = appended_on p.text q.text; same = q.same ∙ p.same }
+
+pub puts_is : {s t : Writer} {T U : List ℕ} → Puts s t T → T ≡ U → Puts s t U
+puts_is p e = record { text = appended_is p.text e; same = p.same }
 
 ------------------------------------------------------------------------
 -- Lines
-
-module _ {A B C D E F : List ℕ} {at b c d e f : ℕ} (v p q r s : ℕ) where
-  pub line_written : Appended A B at b (field v 32) → Appended B C b c (field p 32) → Appended C D c d (field q 32)
-      → Appended D E d e (field r 32) → Appended E F e f (field s 10) → Appended A F at f (line_of v p q r s)
-  unfolding line_of
-  line_written h i j k l = appended_on h (appended_on i (appended_on j (appended_on k l)))
 
 pub line_is : (S : Places) (v : ℕ) {p q r s : ℕ} → p ≡ get_or S.steep_x v 0 → q ≡ get_or S.steep_y v 0
     → r ≡ get_or S.balanced_x v 0 → s ≡ get_or S.balanced_y v 0 → line_of v p q r s ≡ lot_line S v
@@ -44,20 +49,13 @@ module _ (S : Places) (n : ℕ) where
       next : (v : ℕ) → suc v ≡ v + 1
       next v = omega arith
 
-  pub listing_end : {A B : List ℕ} {at e v : ℕ} → Listing S n A B at e v → n ≤ v → Appended A B at e (lot_lines S n)
-  listing_end {v = v} l h = appended_is l.text (ap (lot_lines S) (last v h l.upto))
-    where
-      last : (v : ℕ) → n ≤ v → v ≤ n → v ≡ n
-      last v h u = omega arith
-
   -- a line has room
   pub listing_room : {A B : List ℕ} {at e v : ℕ} → Lines S n A at → Listing S n A B at e v → v < n → e + 55 ≤ length B
   listing_room {e = e} {v} s l h = omega (arith, s.room, l.text.long, l.text.ends, length-lot_lines S v)
 
-  pub sheet_written : {A B C : List ℕ} {b c : ℕ} → Appended A B 0 b (title_of n) → Appended B C b c (lot_lines S n)
-      → Appended A C 0 c (sheet_of S n)
+  pub sheet_put : {s t u : Writer} → Puts s t (title_of n) → Puts t u (lot_lines S n) → Puts s u (sheet_of S n)
   unfolding title_of sheet_of
-  sheet_written p q = appended_is (appended_on p q) (append_assoc sheet_word (field n 10) (lot_lines S n))
+  sheet_put p q = puts_is (puts_on p q) (append_assoc sheet_word (field n 10) (lot_lines S n))
 
 -- after the title there is room for the lines
 pub lines_room : {S : Places} {n : ℕ} {A B : List ℕ} {e : ℕ} → Lines S n A 17 → Appended A B 0 e (title_of n)

@@ -7,9 +7,9 @@
 --   decimal_plain                == no leading zero
 --   appended_on                  == one text after another
 use Rattle.std.specs.Prelude.{Bool, cond, List, [], ◌∷◌, ◌++◌, ◌≡◌, refl, ℕ, zero, suc, ◌+◌, ◌-◌, ◌*◌, ◌/◌, ◌%◌, ◌^◌}
-use Rattle.std.specs.Prelude.{◌≤◌, ◌<◌, length, get_or, take, set}
-use Rattle.std.proofs.Common.{append-nil, append_assoc, sym, ap, subst, ◌∙◌, arith, length-set, length-append}
-use Rattle.std.proofs.Common.{take-suc-set, lt-ltb, le-ltb}
+use Rattle.std.specs.Prelude.{◌≤◌, ◌<◌, length, get_or, take}
+use Rattle.std.proofs.Common.{append-nil, append_assoc, sym, ap, subst, ◌∙◌, arith, length-append}
+use Rattle.std.proofs.Common.{lt-ltb, le-ltb}
 use Rattle.std.proofs.Math.ListN.{get_or-append}
 use Rattle.laws.specs.Tests.{by_lt}
 use Rattle.text.specs.Text.{digits, decimal, field, Places, lot_line, lot_lines, Appended}
@@ -141,17 +141,6 @@ appended_on {A} {B} {C} {a} {b} {c} {S} {T} p q = record {
   text = q.text ∙ ap (λ (l : List ℕ). l ++ T) p.text ∙ append_assoc (take a A) S T;
   long = q.long ∙ p.long;
 }
-
--- one byte
-pub appended_byte : (A : List ℕ) (a b : ℕ) → a < length A → Appended A (set A a b) a (a + 1) (b ∷ [])
-appended_byte A a b h = record {
-  ends = refl;
-  text = ap (λ (k : ℕ). take k (set A a b)) (next a) ∙ take-suc-set A a b h;
-  long = simp length-set;
-}
-  where
-    next : (a : ℕ) → a + 1 ≡ suc a
-    next a = omega arith
 
 pub appended_is : {A B : List ℕ} {a e : ℕ} {S T : List ℕ} → Appended A B a e S → S ≡ T → Appended A B a e T
 appended_is {A} {B} {a} {e} p q = subst (λ (l : List ℕ). Appended A B a e l) q p
