@@ -193,6 +193,7 @@ fn turn(parent: &[u32], work: &mut [u32], u: usize)
 {
     let n = parent.len();
     let mut z = u;
+    // It climbs to the root, from parent to parent, and counts nothing.
     while 0 < z {
         turn_edge(work, n, z);
         z = get(parent, z);
@@ -210,6 +211,7 @@ fn cones_up(parent: &[u32], work: &mut [u32], u: usize)
     put(work, u, EMPTY);
     let mut cone = EMPTY;
     let mut z = u;
+    // It climbs to the root, from parent to parent, and counts nothing.
     while 0 < z {
         let p = get(parent, z);
         turn_edge(work, n, z);

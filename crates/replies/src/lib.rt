@@ -42,11 +42,11 @@ fn put_numbers(reply: &mut [i64], a: u32, b: u32, c: u32)
 }
 
 // Writes the reply of a direction.
-fn put_along(reply: &mut [i64], d: i32, e: i32)
+fn put_along(reply: &mut [i64], along: Along)
     requires { length reply.old ≡ 3 }
-    ensures { reply.new ≡ three (pos 1) d e }
+    ensures { reply.new ≡ three (pos 1) along.across along.up }
 {
-    put_three(reply, 1, d as i64, e as i64);
+    put_three(reply, 1, along.across as i64, along.up as i64);
 }
 
 // Writes the reply of a refusal.
@@ -94,13 +94,10 @@ pub fn put_arranged(reply: &mut [i64], answer: Result<Frame, Stopped>)
 {
     match answer {
         Ok(frame) => put_four(reply, 1, frame.width, frame.height, 0),
-        Err(Stopped { refusal, place }) => put_four(
-            reply,
-            0,
-            refusal.fault.number(),
-            refusal.lot,
-            place,
-        ),
+        Err(Stopped { refusal, place }) => {
+            let number = refusal.fault.number();
+            put_four(reply, 0, number, refusal.lot, place);
+        }
     }
 }
 
@@ -110,7 +107,7 @@ pub fn put_aligned(reply: &mut [i64], answer: Result<Option<u32>, Refusal>)
 {
     match answer {
         Ok(Some(count)) => put_numbers(reply, 1, count, 0),
-        Ok(None) => put_numbers(reply, 2, 0, 0),
+        Ok(None) => put_three(reply, 2, 0, 0),
         Err(refusal) => put_refusal(reply, refusal),
     }
 }
@@ -120,7 +117,7 @@ pub fn put_heading(reply: &mut [i64], answer: Result<Along, Refusal>)
     ensures { reply.new ≡ heading_reply (heading answer) }
 {
     match answer {
-        Ok(along) => put_along(reply, along.across, along.up),
+        Ok(along) => put_along(reply, along),
         Err(refusal) => put_refusal(reply, refusal),
     }
 }

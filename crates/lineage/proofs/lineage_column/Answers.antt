@@ -1,5 +1,6 @@
 -- The call's own contract, with its answer written.
 use mathlib.Core.Path.{refl}
+use Rattle.aligning.specs.Aligned.{aligned}
 use Rattle.lineage.specs.Exports.{Exported}
 use Rattle.lineage.proofs.lineage_column.Goals as goal
 
@@ -12,7 +13,7 @@ unfolding Exported
 returns c = (
   c.if-reply-ne3.false,
   record {
-    answer = c.column-answer.result;
+    answer = aligned c.column-answer.result;
     kept = rw c.rule_of.ensures at c.column-answer.ensures;
     written = c.put_aligned.ensures;
   },

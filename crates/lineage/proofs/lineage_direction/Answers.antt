@@ -1,5 +1,6 @@
 -- The call's own contract, with its answer written.
 use mathlib.Core.Path.{refl}
+use Rattle.direction.specs.Heading.{heading}
 use Rattle.lineage.specs.Exports.{Exported}
 use Rattle.lineage.proofs.lineage_direction.Goals as goal
 
@@ -12,7 +13,7 @@ unfolding Exported
 returns c = (
   c.if-reply-ne3.false,
   record {
-    answer = c.direction-answer.result;
+    answer = heading c.direction-answer.result;
     kept = rw c.rule_of.ensures at c.direction-answer.ensures;
     written = c.put_heading.ensures;
   },

@@ -1,5 +1,6 @@
 -- The call's own contract, with its answer written.
 use mathlib.Core.Path.{refl}
+use Rattle.drawing.specs.Framed.{framed}
 use Rattle.lineage.specs.Exports.{Exported}
 use Rattle.lineage.proofs.lineage_layout.Goals as goal
 
@@ -12,7 +13,7 @@ unfolding Exported
 returns c = (
   c.if-reply-ne3.false,
   record {
-    answer = c.layout-answer.result;
+    answer = framed c.layout-answer.result;
     kept = rw c.rule_of.ensures at c.layout-answer.ensures;
     written = c.put_framed.ensures;
   },

@@ -1,6 +1,7 @@
 -- The call's own contract, with its answer written; a place is below the lists' length, which fits 61 bits.
 use mathlib.Core.Path.{refl}
 use native.Mathlib.Omega.{arith}
+use Rattle.arranging.specs.Arranged.{arranged}
 use Rattle.lineage.specs.Exports.{Exported}
 use Rattle.lineage.proofs.Exporting.{arranged_near}
 use Rattle.lineage.proofs.lineage_lengthen_each.Goals as goal
@@ -21,7 +22,7 @@ unfolding Exported
 returns c = (
   c.if-reply-ne4.false,
   record {
-    answer = c.lengthen_each-answer.result;
+    answer = arranged c.lengthen_each-answer.result;
     kept = rw c.rule_of.ensures at c.lengthen_each-answer.ensures;
     written = c.put_arranged.ensures;
   },

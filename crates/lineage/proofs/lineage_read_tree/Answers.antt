@@ -1,5 +1,6 @@
 -- The call's own contract, with its answer written.
 use mathlib.Core.Path.{refl}
+use Rattle.table.specs.Counted.{counted}
 use Rattle.lineage.specs.Exports.{Exported}
 use Rattle.lineage.proofs.lineage_read_tree.Goals as goal
 
@@ -12,7 +13,7 @@ unfolding Exported
 returns c = (
   c.if-reply-ne3.false,
   record {
-    answer = c.read_tree-answer.result;
+    answer = counted c.read_tree-answer.result;
     kept = c.read_tree-answer.ensures;
     written = c.put_counted.ensures;
   },

@@ -1,5 +1,6 @@
 -- The call's own contract, with its answer written.
 use mathlib.Core.Path.{refl}
+use Rattle.treefile.specs.Saved.{saved}
 use Rattle.lineage.specs.Exports.{Exported}
 use Rattle.lineage.proofs.Exporting.{written_short}
 use Rattle.lineage.proofs.lineage_write_tree.Goals as goal
@@ -16,7 +17,7 @@ unfolding Exported
 returns c = (
   c.if-reply-ne3.false,
   record {
-    answer = c.write_tree-answer.result;
+    answer = saved c.write_tree-answer.result;
     kept = c.write_tree-answer.ensures;
     written = c.put_saved.ensures;
   },
