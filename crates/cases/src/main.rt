@@ -8,10 +8,10 @@
 
 ghost use Rattle.std.specs.Prelude.{◌≤◌};
 
-use aligning::Aligned;
-use arranging::Arranged;
-use drawing::Framed;
-use monotone::Verdict;
+use arranging::Stopped;
+use drawing::Frame;
+use faults::Refusal;
+use monotone::Finding;
 use slopes::Rule;
 use std::alloc::{AllocError, Global};
 use std::fmt;
@@ -113,44 +113,53 @@ impl fmt::Display for Call {
 #[derive(Clone, Copy)]
 struct Shown<T>(T);
 
-// 1 and the frame, or 0 and the refusal.
-impl fmt::Display for Shown<Framed> {
+// 0 and the refusal.
+impl fmt::Display for Shown<Refusal> {
+    fn fmt<W: fmt::Write>(&self, f: &mut fmt::Formatter<W>) -> fmt::Result {
+        let number = self.0.fault.number();
+        let lot = self.0.lot;
+        write!(f, "0 {number} {lot}")
+    }
+}
+
+// 1 and the frame, or the refusal.
+impl fmt::Display for Shown<Result<Frame, Refusal>> {
     fn fmt<W: fmt::Write>(&self, f: &mut fmt::Formatter<W>) -> fmt::Result {
         match self.0 {
-            Framed::Frame(width, height) => write!(f, "1 {width} {height}"),
-            Framed::Refused(number, node) => write!(f, "0 {number} {node}"),
+            Ok(Frame { width, height }) => write!(f, "1 {width} {height}"),
+            Err(refusal) => write!(f, "{}", Shown(refusal)),
         }
     }
 }
 
-// 1, the frame and 0, or 0, the refusal and its place.
-impl fmt::Display for Shown<Arranged> {
+// 1, the frame and 0, or the refusal and its place.
+impl fmt::Display for Shown<Result<Frame, Stopped>> {
     fn fmt<W: fmt::Write>(&self, f: &mut fmt::Formatter<W>) -> fmt::Result {
         match self.0 {
-            Arranged::Frame(width, height) => write!(f, "1 {width} {height} 0"),
-            Arranged::Refused(number, node, place) => write!(f, "0 {number} {node} {place}"),
+            Ok(Frame { width, height }) => write!(f, "1 {width} {height} 0"),
+            Err(Stopped { refusal, place }) => write!(f, "{} {place}", Shown(refusal)),
         }
     }
 }
 
-// 1 and the count, 2 where no count brings the lot there, or 0 and the refusal.
-impl fmt::Display for Shown<Aligned> {
+// 1 and the count, 2 where no count brings the lot there, or the refusal.
+impl fmt::Display for Shown<Result<Option<u32>, Refusal>> {
     fn fmt<W: fmt::Write>(&self, f: &mut fmt::Formatter<W>) -> fmt::Result {
         match self.0 {
-            Aligned::Count(count) => write!(f, "1 {count} 0"),
-            Aligned::None => write!(f, "2 0 0"),
-            Aligned::Refused(number, lot) => write!(f, "0 {number} {lot}"),
+            Ok(Some(count)) => write!(f, "1 {count} 0"),
+            Ok(None) => write!(f, "2 0 0"),
+            Err(refusal) => write!(f, "{}", Shown(refusal)),
         }
     }
 }
 
-// 2 for Monotone, 1 and the pair that turns, or 0 and the refusal.
-impl fmt::Display for Shown<Verdict> {
+// 2 for Monotone, 1 and the pair that turns, or the refusal.
+impl fmt::Display for Shown<Result<Finding, Refusal>> {
     fn fmt<W: fmt::Write>(&self, f: &mut fmt::Formatter<W>) -> fmt::Result {
         match self.0 {
-            Verdict::Monotone => write!(f, "2 0 0"),
-            Verdict::Turns(u, v) => write!(f, "1 {u} {v}"),
-            Verdict::Refused(number, node) => write!(f, "0 {number} {node}"),
+            Ok(Finding::Monotone) => write!(f, "2 0 0"),
+            Ok(Finding::Turns(u, v)) => write!(f, "1 {u} {v}"),
+            Err(refusal) => write!(f, "{}", Shown(refusal)),
         }
     }
 }
@@ -216,7 +225,7 @@ impl Tree {
     }
 
     // Makes the tallest tree of as many nodes as the lists are long.
-    fn make_tallest(&mut self, nodes: u32) -> Framed {
+    fn make_tallest(&mut self, nodes: u32) -> Result<Frame, Refusal> {
         tallest::tallest(nodes, &mut self.parent, &mut self.rank)
     }
 }
@@ -268,7 +277,7 @@ impl Sheet {
     }
 
     // The fresh drawing.
-    fn layout(&mut self) -> Framed {
+    fn layout(&mut self) -> Result<Frame, Refusal> {
         drawing::layout(
             self.rule,
             &self.tree.parent,
@@ -281,7 +290,7 @@ impl Sheet {
         )
     }
 
-    fn lengthen(&mut self, node: u32, count: u32) -> Framed {
+    fn lengthen(&mut self, node: u32, count: u32) -> Result<Frame, Refusal> {
         stretching::lengthen(
             self.rule,
             &self.tree.parent,
@@ -296,7 +305,7 @@ impl Sheet {
         )
     }
 
-    fn shorten(&mut self, node: u32, count: u32) -> Framed {
+    fn shorten(&mut self, node: u32, count: u32) -> Result<Frame, Refusal> {
         stretching::shorten(
             self.rule,
             &self.tree.parent,
@@ -311,7 +320,7 @@ impl Sheet {
         )
     }
 
-    fn hold(&mut self, node: u32, on: bool) -> Framed {
+    fn hold(&mut self, node: u32, on: bool) -> Result<Frame, Refusal> {
         holding::hold(
             self.rule,
             &self.tree.parent,
@@ -326,7 +335,7 @@ impl Sheet {
         )
     }
 
-    fn lengthen_each(&mut self, lots: &[u32], counts: &[u32]) -> Arranged {
+    fn lengthen_each(&mut self, lots: &[u32], counts: &[u32]) -> Result<Frame, Stopped> {
         arranging::lengthen_each(
             self.rule,
             &self.tree.parent,
@@ -341,7 +350,7 @@ impl Sheet {
         )
     }
 
-    fn column(&mut self, lot: u32, column: u32) -> Aligned {
+    fn column(&mut self, lot: u32, column: u32) -> Result<Option<u32>, Refusal> {
         aligning::column(
             self.rule,
             &self.tree.parent,
@@ -356,7 +365,7 @@ impl Sheet {
         )
     }
 
-    fn check(&mut self) -> Verdict {
+    fn check(&mut self) -> Result<Finding, Refusal> {
         monotone::check(
             &self.tree.parent,
             &self.tree.rank,
@@ -380,7 +389,7 @@ impl fmt::Display for Sheet {
 // What is made of a sheet, with a line for each answer.
 impl Sheet {
     // Lengthens, shortens, holds or frees.
-    fn make(&mut self, call: Call) -> Framed {
+    fn make(&mut self, call: Call) -> Result<Frame, Refusal> {
         match call {
             Call::Lengthen(node, count) => self.lengthen(node, count),
             Call::Shorten(node, count) => self.shorten(node, count),

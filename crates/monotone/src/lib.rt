@@ -336,7 +336,13 @@ fn check_within(
 
 // Whether the drawing of a table is monotone: the first pair, by number, whose tree path rises along no direction. The
 // work list is 4n long; refusals 1, 14 and 3 leave it alone.
-pub fn check(parent: &[u32], rank: &[u32], x: &[u32], y: &[u32], work: &mut [u32]) -> Result<Finding, Refusal>
+pub fn check(
+    parent: &[u32],
+    rank: &[u32],
+    x: &[u32],
+    y: &[u32],
+    work: &mut [u32],
+) -> Result<Finding, Refusal>
     ensures { Checked checked parent.now rank.now x.now y.now
         work.old work.new (verdict result) }
 {

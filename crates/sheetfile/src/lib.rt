@@ -7,7 +7,7 @@ ghost use Rattle.sheetfile.specs.SheetFile.{lots_in, sheet_text, Fitting, Ample}
 
 use drawing::layout;
 use slopes::Rule;
-use table::{Counted, printed_limits};
+use table::printed_limits;
 use text::{put_refusal, put_sheet};
 use treefile::read_tree_within;
 
@@ -15,11 +15,8 @@ use treefile::read_tree_within;
 fn lots_in(bytes: &[u8]) -> usize
     ensures { result ≡ lots_in (length bytes.now) }
 {
-    if bytes.len() < 4 {
-        return 0;
-    }
-    let n = (bytes.len() - 4) / 8;
-    if n < 4096 { n } else { 4096 }
+    let n = bytes.len().saturating_sub(4) / 8;
+    n.min(4096)
 }
 
 // The text for the file, with lists that fit it.
@@ -41,14 +38,12 @@ fn fitted_text(
     ensures { Appended out.old out.new 0 result (sheet_text bytes.now) }
 {
     let limits = printed_limits();
-    match read_tree_within(limits, bytes, parent, rank, work) {
-        Counted::Refused(number, lot) => put_refusal(out, number, lot),
-        Counted::Nodes(_) => {
-            layout(Rule::Steep, parent, rank, times, x, y, held, work);
-            layout(Rule::Balanced, parent, rank, times, u, w, held, work);
-            put_sheet(out, x, y, u, w)
-        }
+    if let Err(refusal) = read_tree_within(limits, bytes, parent, rank, work) {
+        return put_refusal(out, refusal.fault.number(), refusal.lot);
     }
+    let _ = layout(Rule::Steep, parent, rank, times, x, y, held, work);
+    let _ = layout(Rule::Balanced, parent, rank, times, u, w, held, work);
+    put_sheet(out, x, y, u, w)
 }
 
 // Puts the text for the file at the start of `out` and returns its length. The other lists are room to work in; what

@@ -171,7 +171,12 @@ pub fn read_tree(
 }
 
 // Writes the file of an accepted table of at most 65,536 nodes.
-pub fn write_tree(parent: &[u32], rank: &[u32], bytes: &mut [u8], work: &mut [u32]) -> Result<usize, Refusal>
+pub fn write_tree(
+    parent: &[u32],
+    rank: &[u32],
+    bytes: &mut [u8],
+    work: &mut [u32],
+) -> Result<usize, Refusal>
     ensures { Wrote large parent.now rank.now bytes.old work.old
         bytes.new work.new (saved result) }
 {
