@@ -1,6 +1,0 @@
--- No node below v has a rank that is too high or a sibling's too.
-use Rattle.table.proofs.Seats.{Ranking}
-use Rattle.table.proofs.test_ranks.Given as goal
-
-abbrev pub invariant-loop-v : goal.invariant-loop-v
-invariant-loop-v l = Ranking l.parent l.rank l.v

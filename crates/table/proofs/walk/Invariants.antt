@@ -1,6 +1,0 @@
--- The node at hand is the one with number c + 1.
-use Rattle.table.proofs.Walks.{Walking}
-use Rattle.table.proofs.walk.Given as goal
-
-abbrev pub invariant-loop-c : goal.invariant-loop-c
-invariant-loop-c l = Walking l.parent l.rank l.work l.v l.c
