@@ -7,8 +7,8 @@ use Rattle.slopes.proofs.edge_slope.Goals as goal
 
 pub slope_at-requires : goal.slope_at-requires
 slope_at-requires c =
-    let number = edge_number c.requires.0 c.requires.1 c.requires.2 in
+    let number = edge_number c.args.tree.now.tree c.requires.0 c.requires.1 in
     (omega (arith, c.get.ensures.0), omega (arith, c.get.ensures.0), omega arith)
 
 pub returns : goal.returns
-returns c = edge_is _ _ _ _ (c.get.ensures.0 ∙ c.requires.0.numbers.last _ c.requires.2) c.slope_at.ensures
+returns c = edge_is _ _ _ _ (c.get.ensures.0 ∙ c.args.tree.now.tree.numbers.last _ c.requires.1) c.slope_at.ensures
