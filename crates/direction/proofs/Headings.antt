@@ -7,6 +7,7 @@ use native.Mathlib.Omega.{arith}
 use lib.IntN.{pos, negsuc}
 use lib.ListN.{length}
 use borrow.Author.Tests.{lt-ltb, le-ltb}
+use Rattle.table.specs.TableLaws.{Tree}
 use Rattle.table.specs.Table.{rank, climb, under, steps_up}
 use Rattle.table.specs.Ancestry.{climb-zero, climb-inside, steps_up-zero, steps_up_some, steps_up_way}
 use Rattle.slopes.specs.declared.Slope.{Slope}
@@ -14,7 +15,7 @@ use Rattle.slopes.specs.Slopes.{◌⊕◌}
 use Rattle.direction.specs.Heading.{Heading}
 use Rattle.direction.specs.Heading.{Along}
 use Rattle.direction.specs.Direction.{left_of, right_of, sideways, heading}
-use Rattle.direction.specs.Parts.{LargeTree, TwoNodes, TwoEdges}
+use Rattle.direction.specs.Parts.{TwoNodes, TwoEdges}
 
 pub pair_back : {P : List ℕ} {u v : ℕ} → TwoNodes P u v → TwoNodes P v u
 pair_back pair = record { first = pair.second; second = pair.first }
@@ -32,16 +33,16 @@ module _ (R : List ℕ) (s : ℕ → Slope) (u v p q : ℕ) {a b : ℕ} (at_p : 
   sideways_right l em en er =
       rw (le-ltb (rank R p) (rank R q) (omega arith)) (er ∙ ap₂ (λ (m n : Slope). right_of (m ⊕ n)) em en)
 
-module _ {P R W : List ℕ} (ordered : LargeTree P R W) where
+module _ {P R : List ℕ} (tree : Tree P R) where
   -- the child of the lowest common ancestor, and the node itself, are not the root
   edge_up : {u v p : ℕ} → TwoNodes P u v → under P u v ≡ false → p ≡ climb P (steps_up P u v - 1) u
       → (0 < u) × (0 < p) × (p < length P)
   edge_up {u} {v} {p} pair f at =
-      let some = steps_up_some ordered.numbered.tree u v pair.first pair.second f in
-      let way = steps_up_way ordered.numbered.tree u v in (
+      let some = steps_up_some tree u v pair.first pair.second f in
+      let way = steps_up_way tree u v in (
         subst (λ (z : ℕ). 0 < z) (climb-zero P u) (way 0 pair.second (omega arith)),
         subst⁻¹ (λ (z : ℕ). 0 < z) at (way (steps_up P u v - 1) pair.second (omega arith)),
-        subst⁻¹ (λ (z : ℕ). z < length P) at (climb-inside P ordered.numbered.tree.inside (steps_up P u v - 1) u
+        subst⁻¹ (λ (z : ℕ). z < length P) at (climb-inside P tree.inside (steps_up P u v - 1) u
             pair.first),
       )
 
@@ -50,19 +51,19 @@ module _ {P R W : List ℕ} (ordered : LargeTree P R W) where
     pub heading_down : (s : ℕ → Slope) → over ≡ true
         → Along (pos 1) (pos 1) ≡ heading P R s u v (steps_up P u v) (steps_up P v u)
     unfolding heading
-    heading_down s t = rw (steps_up-zero ordered.numbered.tree u v pair.first pair.second (sym over_is
+    heading_down s t = rw (steps_up-zero tree u v pair.first pair.second (sym over_is
         ∙ t)) refl
 
     module _ (not_over : over ≡ false) {below : Bool} (below_is : below ≡ under P v u) where
       up : (i : ℕ) × (steps_up P u v ≡ suc i)
-      up = steps_up_some ordered.numbered.tree u v pair.first pair.second (sym over_is ∙ not_over)
+      up = steps_up_some tree u v pair.first pair.second (sym over_is ∙ not_over)
 
       pub heading_up : (s : ℕ → Slope) → below ≡ true
           → Along (negsuc 0) (negsuc 0) ≡ heading P R s u v (steps_up P u v) (steps_up P v u)
       unfolding heading
       heading_up s t = rw (
         up.1,
-        steps_up-zero ordered.numbered.tree v u pair.second pair.first (sym below_is
+        steps_up-zero tree v u pair.second pair.first (sym below_is
             ∙ t),
       ) refl
 
@@ -80,7 +81,7 @@ module _ {P R W : List ℕ} (ordered : LargeTree P R W) where
             → r ≡ heading P R s u v (steps_up P u v) (steps_up P v u)
         unfolding heading
         heading_side s er =
-            let down = steps_up_some ordered.numbered.tree v u pair.second pair.first (sym below_is
+            let down = steps_up_some tree v u pair.second pair.first (sym below_is
             ∙ not_below) in
             let steps_p : steps_up P u v - 1 ≡ up.0 = omega (arith, up.1) in
             let steps_q : steps_up P v u - 1 ≡ down.0 = omega arith in

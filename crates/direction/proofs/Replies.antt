@@ -3,7 +3,7 @@ use mathlib.Core.Bool.{true, false, ◌||◌}
 use mathlib.Core.List.{List}
 use mathlib.Core.Option.{Option}
 use mathlib.Core.Path.{◌≡◌, refl, sym, ap, subst, ◌∙◌}
-use Prim.Native.Nat.{ℕ}
+use Prim.Native.Nat.{ℕ, ◌≤◌}
 use lib.Dec.{leb}
 use lib.ListN.{length}
 use Rattle.laws.specs.Refusals.{or_else_first, or_else_second, refuse_yes, refuse_no}
@@ -11,6 +11,7 @@ use Rattle.laws.specs.Search.{Refusal, refused_or}
 use Rattle.table.specs.declared.Limits.{Limits}
 use Rattle.table.specs.Validity.{Validity}
 use Rattle.table.specs.Validity.{Accepted, Refused as Invalid}
+use Rattle.table.specs.Numbering.{NumberedTree}
 use Rattle.table.specs.Table.{large}
 use Rattle.table.specs.Acceptance.{accepting}
 use Rattle.table.specs.Parts.{Prepared, fault, no_fault}
@@ -18,7 +19,7 @@ use Rattle.slopes.specs.declared.Rule.{Rule}
 use Rattle.direction.specs.Heading.{Heading}
 use Rattle.direction.specs.Heading.{Refused}
 use Rattle.direction.specs.Direction.{course, pair_fault, direction, Directed}
-use Rattle.direction.specs.Parts.{LargeTree, PairAnswered}
+use Rattle.direction.specs.Parts.{PairAnswered}
 
 ------------------------------------------------------------------------
 -- Refusal 9, and none
@@ -57,11 +58,11 @@ module _ (P R : List ℕ) (rule : Rule) (u v : ℕ) {L : Limits} (is_large : L �
   }
 
   module _ (ok : r ≡ Accepted) where
-    pub table_numbered : LargeTree P R X
-    table_numbered = record {
-      numbered = prepared.left ok;
-      few = (accepting large P R true (length W) (no_fault prepared ok)).shape.few;
-    }
+    pub table_numbered : NumberedTree P R X
+    table_numbered = prepared.left ok
+
+    pub table_few : length P ≤ large.nodes
+    table_few = (accepting large P R true (length W) (no_fault prepared ok)).shape.few
 
     pub table_accepted : {a : Heading} → PairAnswered P R rule u v a → Directed large P R rule W X u v a
     unfolding direction

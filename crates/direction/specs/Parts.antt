@@ -1,24 +1,18 @@
 -- What the inner functions of the direction call require and give.
 --
---   LargeTree P R W     == an accepted table with its post numbers in the work list W
 --   TwoNodes P u v      == u and v are nodes
 --   Apart P u v         == and v is not in u's subtree
 --   TwoEdges P u v      == u and v are nodes, and neither is the root: each has an edge
 --   SmallSlope s        == the parts of the slope s are below the largest number of nodes
 --   PairAnswered .. r   == r is the answer for an accepted table
-use Rattle.std.specs.Prelude.{false, List, ◌≡◌, ℕ, ◌≤◌, ◌<◌, length}
+use Rattle.std.specs.Prelude.{false, List, ◌≡◌, ℕ, ◌<◌, length}
 use Rattle.laws.specs.Search.{refused_or}
 use Rattle.table.specs.Table.{under, large}
-use Rattle.table.specs.Numbering.{NumberedTree}
 use Rattle.slopes.specs.declared.Rule.{Rule}
 use Rattle.slopes.specs.declared.Slope.{Slope}
 use Rattle.direction.specs.Heading.{Heading}
 use Rattle.direction.specs.Heading.{Refused}
 use Rattle.direction.specs.Direction.{course, pair_fault}
-
-pub record LargeTree (P R W : List ℕ) : Type 0 where
-  pub numbered : NumberedTree P R W
-  pub few : length P ≤ large.nodes
 
 pub record TwoNodes (P : List ℕ) (u v : ℕ) : Type 0 where
   pub first : u < length P

@@ -9,11 +9,12 @@ use Rattle.direction.proofs.accepted.Goals as goal
 
 pub returns-then-n-u : goal.returns-then-n-u
 returns-then-n-u c =
-    rw c.at.ensures (no_node c.args.parent.now c.args.rank.now c.args.rule c.args.u c.args.v
+    rw c.at.ensures (no_node c.args.tree.now.parent.now c.args.tree.now.rank.now c.args.rule c.args.u c.args.v
     (⊎_elim (λ first. either_first _ _ (le-leb _ _ first))
-    (λ second. either_second (leb (length c.args.parent.now) c.args.u) _ (le-leb _ _ second.1)) c.then-n-u.either))
+    (λ second. either_second (leb (length c.args.tree.now.parent.now) c.args.u) _ (le-leb _ _ second.1))
+    c.then-n-u.either))
 
 pub returns : goal.returns
 returns c =
-    both_nodes c.args.parent.now c.args.rank.now c.args.rule c.args.u c.args.v
+    both_nodes c.args.tree.now.parent.now c.args.tree.now.rank.now c.args.rule c.args.u c.args.v
     (neither_is (lt-leb _ _ c.if-n-u.false) (lt-leb _ _ c.if-n-v.false)) c.heading_of.ensures

@@ -4,7 +4,7 @@ use Rattle.direction.proofs.Ascent.{Ascending}
 use Rattle.direction.proofs.below_meeting.Given as goal
 
 abbrev pub invariant-loop-u : goal.invariant-loop-u
-invariant-loop-u l = Ascending l.parent l.u l.v l.z
+invariant-loop-u l = Ascending l.tree.parent.now l.u l.v l.z
 
 abbrev pub decreases-loop-u : goal.decreases-loop-u
-decreases-loop-u l = depth l.parent l.z
+decreases-loop-u l = depth l.tree.parent.now l.z
