@@ -50,6 +50,11 @@ prepared P s {L} {R} {W} {X} {long} {r} is p =
           };
     })
 
+-- of the drawing in the same lists, read another way
+pub prepared_as : {L : Limits} {P R : List ℕ} {d e : Drawing} {H W X : List ℕ} {r : Validity} → d ≡ e
+    → Prepared L P R (sheet_of d H) W X r → Prepared L P R (sheet_of e H) W X r
+prepared_as {L} {P} {R} {H = H} {W} {X} {r} is p = subst (λ (d : Drawing). Prepared L P R (sheet_of d H) W X r) is p
+
 module _ {L : Limits} {P R : List ℕ} {s : Sheet} {W X : List ℕ} {r : Validity} (p : Prepared L P R s W X r) where
   pub blank : {rule : Rule} → Roomy L → FramesFit L → r ≡ Accepted → Blank P R rule s.drawing X
   blank {rule} room low e =

@@ -1,13 +1,14 @@
 -- The nodes with numbers from j on are drawn.
-use native.Mathlib.Omega.{arith}
+use Rattle.std.proofs.Common.{refl, arith}
 use Rattle.slopes.proofs.Backward.{backward_start, backward_edge, backward_step}
 use Rattle.drawing.proofs.Laying.{laying_start, laying_x, laying_y, laying_step, laying_end}
-use Rattle.drawing.proofs.draw.Goals as goal
+use Rattle.drawing.proofs.DrawingMut.draw.Goals as goal
 
 pub loop-j-init : goal.loop-j-init
 loop-j-init c = (
   backward_start c.requires.sized.numbered c.bordered_at-here.ensures c.bordered_at-after.ensures,
   laying_start c.requires c.put.ensures c.put-2.ensures c.put-3.ensures,
+  (refl, refl, refl),
 )
 
 pub hang-requires : goal.hang-requires
@@ -27,7 +28,8 @@ loop-j-preserved c = (
       (backward_edge c.loop-j.invariant.0 (omega arith) c.node_at-v.ensures)
       c.put-in-loop-j.ensures
       c.hang.ensures c.hang-in-loop-j.ensures,
+  c.loop-j.invariant.2,
 )
 
 pub returns : goal.returns
-returns c = laying_end c.loop-j.invariant.1 (omega arith)
+returns c = record { fresh = laying_end c.loop-j.invariant.1 (omega arith); lists = c.loop-j.invariant.2 }
