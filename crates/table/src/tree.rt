@@ -49,9 +49,11 @@ impl Tree<'_> {
             × Only (length self.now.parent.now + 1) (2 * length self.now.parent.now) work.old
             work.new }
     {
-        let n = self.parent.len();
+        // The lists of a copy are read once; those behind `self` would be read again after each write.
+        let tree = *self;
+        let n = tree.parent.len();
         for v in 1..n {
-            self.seat(work, v);
+            tree.seat(work, v);
         }
     }
 
@@ -146,12 +148,12 @@ impl Tree<'_> {
         requires { Ready self.now.parent.now self.now.rank.now work.old }
         ensures { Seated self.now.parent.now self.now.rank.now work.new }
     {
-        let parent = self.parent;
-        let rank = self.rank;
-        let n = parent.len();
+        // The lists of a copy are read once; those behind `self` would be read again after each write.
+        let tree = *self;
+        let n = tree.parent.len();
         for v in 1..n {
-            let p = get(parent, v);
-            let r = get(rank, v);
+            let p = get(tree.parent, v);
+            let r = get(tree.rank, v);
             let s = get(work, p) + r;
             put(work, n + 1 + s, v);
         }
@@ -213,13 +215,15 @@ impl Tree<'_> {
         ensures { Visited self.now.parent.now self.now.rank.now work.new
             (length self.now.parent.now) }
     {
-        let n = self.parent.len();
-        let mut v = self.leaf(work, 0);
+        // The lists of a copy are read once; those behind `self` would be read again after each write.
+        let tree = *self;
+        let n = tree.parent.len();
+        let mut v = tree.leaf(work, 0);
         for c in 0..n - 1 {
-            self.visit(work, v, c);
-            v = self.next(work, v);
+            tree.visit(work, v, c);
+            v = tree.next(work, v);
         }
-        self.visit(work, v, n - 1);
+        tree.visit(work, v, n - 1);
     }
 
     // The post number of each node, from the order.
