@@ -6,7 +6,7 @@
 --   parents t, ranks t   == the lists of a lent tree, at entry and at exit
 --   sheet_read d held    == the sheet of a drawing lent to read and of held, at entry and at exit
 --   sheet_written d held == that of a drawing lent to write
-use Rattle.std.specs.Prelude.{List, ◌≡◌, ℕ}
+use Rattle.std.specs.Prelude.{◌≡◌}
 use Rattle.std.specs.Borrow.{Bor, MutBor}
 use denote.Triple.Both.{Both}
 use Rattle.table.specs.declared.tree.Tree.{Tree}

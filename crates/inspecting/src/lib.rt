@@ -5,14 +5,15 @@ ghost use Rattle.std.specs.Prelude.{true, ◌≡◌, ◌+◌, ◌*◌, ◌^◌, 
 ghost use Rattle.laws.specs.Search.{least};
 ghost use Rattle.table.specs.Validity.{valid};
 ghost use Rattle.slopes.specs.Slopes.{edge};
-ghost use Rattle.drawing.specs.Drawing.{lent, node_fits, drawing, sheet, to_read};
+ghost use Rattle.drawing.specs.Drawing.{node_fits, sheet_of};
+ghost use Rattle.drawing.specs.Lists.{read};
 ghost use Rattle.drawing.specs.Parts.{Sized};
 ghost use Rattle.inspecting.specs.Parts.{placed_from, root_fits, misfit, AllFit, misheld, Inspecting};
 
-use drawing::prepare;
+use drawing::Drawing;
 use faults::{Fault, Refusal};
 use slopes::{Rule, Slope, bordered_at, edge_slope, slope_before};
-use table::{Limits, get, node_at};
+use table::{Limits, Numbered, Tree, get};
 
 // Whether v is at its parent's place p and `step` more, and within the limit.
 fn placed(limit: usize, places: &[u32], p: usize, v: usize, step: usize) -> bool
@@ -27,17 +28,17 @@ fn placed(limit: usize, places: &[u32], p: usize, v: usize, step: usize) -> bool
 }
 
 // Whether the root has times 1 and place (0, 0).
-fn root_fits(times: &[u32], x: &[u32], y: &[u32]) -> bool
-    requires { (0 < length times.now) × (0 < length x.now) × (0 < length y.now) }
-    ensures { result ≡ root_fits (drawing (to_read times) (to_read x) (to_read y)).entry }
+fn root_fits(drawing: &Drawing<'_>) -> bool
+    requires { (0 < length drawing.now.times.now) × (0 < length drawing.now.x.now) × (0 < length drawing.now.y.now) }
+    ensures { result ≡ root_fits (read drawing.now) }
 {
-    if get(times, 0) != 1 {
+    if get(drawing.times, 0) != 1 {
         return false;
     }
-    if get(x, 0) != 0 {
+    if get(drawing.x, 0) != 0 {
         return false;
     }
-    get(y, 0) == 0
+    get(drawing.y, 0) == 0
 }
 
 // `count` times a part of a slope: with room for a place in 64 bits.
@@ -52,134 +53,93 @@ pub fn product(count: usize, part: u32) -> usize
 fn node_fits(
     limit: usize,
     rule: Rule,
-    parent: &[u32],
-    rank: &[u32],
-    times: &[u32],
-    x: &[u32],
-    y: &[u32],
-    work: &[u32],
+    tree: &Numbered<'_>,
+    drawing: &Drawing<'_>,
     v: usize,
     slope: Slope,
 ) -> bool
-    requires { Sized parent.now rank.now (lent times.now x.now y.now) work.now
-        × (0 < v) × (v < length parent.now) × (slope ≡ edge parent.now rank.now rule v) }
-    ensures { result ≡ node_fits limit parent.now rank.now rule
-        (drawing (to_read times) (to_read x) (to_read y)).entry v }
+    requires { Sized tree.now.parent.now tree.now.rank.now (read drawing.now) tree.now.work.now
+        × (0 < v) × (v < length tree.now.parent.now)
+        × (slope ≡ edge tree.now.parent.now tree.now.rank.now rule v) }
+    ensures { result ≡ node_fits limit tree.now.parent.now tree.now.rank.now rule
+        (read drawing.now) v }
 {
-    let t = get(times, v);
+    let t = get(drawing.times, v);
     if t < 1 {
         return false;
     }
-    let p = get(parent, v);
-    let right = placed(limit, x, p, v, product(t, slope.across));
+    let p = get(tree.parent, v);
+    let right = placed(limit, drawing.x, p, v, product(t, slope.across));
     if !right {
         return false;
     }
-    placed(limit, y, p, v, product(t, slope.up))
+    placed(limit, drawing.y, p, v, product(t, slope.up))
 }
 
-// The smallest node with refusal 8, or n, where the root fits: node by node, each with a slope found by itself.
-fn misfit_by_node(
-    limit: usize,
-    rule: Rule,
-    parent: &[u32],
-    rank: &[u32],
-    times: &[u32],
-    x: &[u32],
-    y: &[u32],
-    work: &[u32],
-) -> usize
-    requires { Sized parent.now rank.now (lent times.now x.now y.now) work.now
-        × (root_fits (lent times.now x.now y.now) ≡ true) }
-    ensures { result ≡ least (misfit limit parent.now rank.now rule
-        (drawing (to_read times) (to_read x) (to_read y)).entry) (length parent.now) }
+// How many lots fit before the first that does not, where the root fits: node by node, each with a slope found by itself.
+fn misfit_by_node(limit: usize, rule: Rule, tree: &Numbered<'_>, drawing: &Drawing<'_>) -> usize
+    requires { Sized tree.now.parent.now tree.now.rank.now (read drawing.now) tree.now.work.now
+        × (root_fits (read drawing.now) ≡ true) }
+    ensures { result ≡ least (misfit limit tree.now.parent.now tree.now.rank.now rule
+        (read drawing.now)) (length tree.now.parent.now) }
 {
-    let n = parent.len();
-    let mut v = 1;
-    while v < n {
-        let slope = edge_slope(rule, parent, rank, work, v);
-        let fits = node_fits(limit, rule, parent, rank, times, x, y, work, v, slope);
+    let n = tree.parent.len();
+    for v in 1..n {
+        let slope = edge_slope(rule, tree, v);
+        let fits = node_fits(limit, rule, tree, drawing, v, slope);
         if !fits {
             return v;
         }
-        v += 1;
     }
     n
 }
 
 // Whether all nodes fit, where the root does: in reverse post-order, each slope told by the two after it.
-fn all_fit(
-    limit: usize,
-    rule: Rule,
-    parent: &[u32],
-    rank: &[u32],
-    times: &[u32],
-    x: &[u32],
-    y: &[u32],
-    work: &[u32],
-) -> bool
-    requires { Sized parent.now rank.now (lent times.now x.now y.now) work.now
-        × (root_fits (lent times.now x.now y.now) ≡ true) }
-    ensures { AllFit limit parent.now rank.now rule (drawing (to_read times) (to_read x) (to_read y)).entry result }
+fn all_fit(limit: usize, rule: Rule, tree: &Numbered<'_>, drawing: &Drawing<'_>) -> bool
+    requires { Sized tree.now.parent.now tree.now.rank.now (read drawing.now) tree.now.work.now
+        × (root_fits (read drawing.now) ≡ true) }
+    ensures { AllFit limit tree.now.parent.now tree.now.rank.now rule (read drawing.now) result }
 {
-    let n = parent.len();
+    let n = tree.parent.len();
     let mut here = bordered_at(rule, n, n - 1);
     let mut after = bordered_at(rule, n, n);
-    let mut j = n - 1;
-    while 0 < j {
-        let v = node_at(parent, rank, work, j);
-        let fits = node_fits(limit, rule, parent, rank, times, x, y, work, v, here);
+    for j in (1..n).rev() {
+        let v = tree.node_at(j);
+        let fits = node_fits(limit, rule, tree, drawing, v, here);
         if !fits {
             return false;
         }
         let before = slope_before(rule, n, j, here, after);
         after = here;
         here = before;
-        j -= 1;
     }
     true
 }
 
-// The smallest node with refusal 8, or n. A steep slope is told by its number alone; balanced ones are quicker in
+// How many lots fit before the first that does not. A steep slope is told by its number alone; balanced ones are quicker in
 // order, and node by node only where some node doesn't fit.
-fn first_misfit(
-    limit: usize,
-    rule: Rule,
-    parent: &[u32],
-    rank: &[u32],
-    times: &[u32],
-    x: &[u32],
-    y: &[u32],
-    work: &[u32],
-) -> usize
-    requires { Sized parent.now rank.now (lent times.now x.now y.now) work.now }
-    ensures { result ≡ least (misfit limit parent.now rank.now rule
-        (drawing (to_read times) (to_read x) (to_read y)).entry) (length parent.now) }
+fn first_misfit(limit: usize, rule: Rule, tree: &Numbered<'_>, drawing: &Drawing<'_>) -> usize
+    requires { Sized tree.now.parent.now tree.now.rank.now (read drawing.now) tree.now.work.now }
+    ensures { result ≡ least (misfit limit tree.now.parent.now tree.now.rank.now rule
+        (read drawing.now)) (length tree.now.parent.now) }
 {
-    let root = root_fits(times, x, y);
+    let root = root_fits(drawing);
     if !root {
         return 0;
     }
     match rule {
-        Rule::Steep => misfit_by_node(limit, rule, parent, rank, times, x, y, work),
+        Rule::Steep => misfit_by_node(limit, rule, tree, drawing),
         Rule::Balanced => {
-            let fit = all_fit(limit, rule, parent, rank, times, x, y, work);
+            let fit = all_fit(limit, rule, tree, drawing);
             if fit {
-                return parent.len();
+                return tree.parent.len();
             }
-            misfit_by_node(limit, rule, parent, rank, times, x, y, work)
+            misfit_by_node(limit, rule, tree, drawing)
         }
     }
 }
 
-// The smaller of two numbers.
-fn smaller(a: usize, b: usize) -> usize
-    ensures { result ≡ min a b }
-{
-    if b < a { b } else { a }
-}
-
-// The smallest node whose entry of held is wrong, or n.
+// How many entries of held are right before the first that is not.
 fn first_misheld(held: &[u32]) -> usize
     requires { 0 < length held.now }
     ensures { result ≡ least (misheld held.now) (length held.now) }
@@ -188,12 +148,10 @@ fn first_misheld(held: &[u32]) -> usize
     if get(held, 0) != 0 {
         return 0;
     }
-    let mut z = 1;
-    while z < n {
+    for z in 1..n {
         if 1 < get(held, z) {
             return z;
         }
-        z += 1;
     }
     n
 }
@@ -202,22 +160,24 @@ fn first_misheld(held: &[u32]) -> usize
 pub fn inspect(
     limits: Limits,
     rule: Rule,
-    parent: &[u32],
-    rank: &[u32],
-    times: &[u32],
-    x: &[u32],
-    y: &[u32],
+    tree: &Tree<'_>,
+    drawing: &Drawing<'_>,
     held: &[u32],
     work: &mut [u32],
 ) -> Result<(), Refusal>
-    ensures { Inspecting limits parent.now rank.now rule
-        (sheet (to_read times) (to_read x) (to_read y) (to_read held)).entry work.old work.new (valid result) }
+    ensures { Inspecting limits tree.now.parent.now tree.now.rank.now rule
+        (sheet_of (read drawing.now) held.now) work.old work.new (valid result) }
 {
-    let n = parent.len();
+    let n = tree.parent.len();
     let place = limits.place as usize;
-    prepare(limits, parent, rank, times, x, y, held, work)?;
-    let u = first_misfit(place, rule, parent, rank, times, x, y, work);
-    let v = smaller(u, first_misheld(held));
+    drawing.prepare(limits, tree, held, work)?;
+    let numbered = Numbered {
+        parent: tree.parent,
+        rank: tree.rank,
+        work,
+    };
+    let u = first_misfit(place, rule, &numbered, drawing);
+    let v = u.min(first_misheld(held));
     if v < n {
         return Err(Fault::NoSheet.at(v));
     }

@@ -5,3 +5,4 @@ pub mod StretchLaws
 pub mod CallLaws
 pub mod Openings
 pub mod HeldLaws
+pub mod Reading

@@ -5,11 +5,11 @@
 
 ghost use Rattle.std.specs.Prelude.{true, false, ◌≡◌, ◌+◌, ◌^◌, ◌≤◌, ◌<◌, length};
 ghost use Rattle.table.specs.Acceptance.{validity};
-ghost use Rattle.table.specs.Numbering.{NumberedTree};
 ghost use Rattle.table.specs.Table.{large};
 ghost use Rattle.table.specs.Validity.{valid};
 ghost use Rattle.slopes.specs.Slopes.{edge};
-ghost use Rattle.drawing.specs.Drawing.{lent, sheet_of, drawing, sheet, Does, to_read, to_write};
+ghost use Rattle.drawing.specs.Drawing.{sheet_of, Does, to_read, to_write};
+ghost use Rattle.drawing.specs.Lists.{read, written, SameLists, parents, ranks, sheet_written};
 ghost use Rattle.drawing.specs.Framed.{framed};
 ghost use Rattle.drawing.specs.DrawingLaws.{Drawn};
 ghost use Rattle.drawing.specs.Parts.{FramesFit};
@@ -18,11 +18,11 @@ ghost use Rattle.stretching.specs.Stretches.{longer};
 ghost use Rattle.stretching.specs.Parts.{by, free_fault, Examining, Unheld, Passes, Movable, Stretchable, Opened};
 ghost use Rattle.stretching.specs.Parts.{framing};
 
-use drawing::{Frame, frame_of};
+use drawing::{Drawing, DrawingMut, Frame};
 use faults::{Fault, Refusal};
 use inspecting::{inspect, product};
 use slopes::{Rule, Slope, edge_slope};
-use table::{Limits, get, large_limits, put};
+use table::{Limits, Numbered, Tree, get, large_limits, put};
 
 // d more or d less than a.
 fn changed(a: usize, d: usize, longer: bool) -> usize
@@ -61,57 +61,44 @@ fn test_free(held: &[u32], lot: u32) -> Result<(), Refusal>
 pub fn examine(
     limits: Limits,
     rule: Rule,
-    parent: &[u32],
-    rank: &[u32],
-    times: &[u32],
-    x: &[u32],
-    y: &[u32],
+    tree: &Tree<'_>,
+    drawing: &Drawing<'_>,
     held: &[u32],
     work: &mut [u32],
     lot: u32,
 ) -> Result<(), Refusal>
-    ensures { Examining limits parent.now rank.now rule
-        (sheet (to_read times) (to_read x) (to_read y) (to_read held)).entry work.old lot work.new (valid result) }
+    ensures { Examining limits tree.now.parent.now tree.now.rank.now rule
+        (sheet_of (read drawing.now) held.now) work.old lot work.new (valid result) }
 {
-    inspect(limits, rule, parent, rank, times, x, y, held, work)?;
-    test_edge(parent.len(), lot)
+    inspect(limits, rule, tree, drawing, held, work)?;
+    test_edge(tree.parent.len(), lot)
 }
 
 // Refusals 1 to 10, then 22, of a call that stretches the edge of `lot`; an accepted table is numbered.
 fn examine_free(
     limits: Limits,
     rule: Rule,
-    parent: &[u32],
-    rank: &[u32],
-    times: &[u32],
-    x: &[u32],
-    y: &[u32],
+    tree: &Tree<'_>,
+    drawing: &Drawing<'_>,
     held: &[u32],
     work: &mut [u32],
     lot: u32,
 ) -> Result<(), Refusal>
-    ensures { Unheld limits parent.now rank.now rule
-        (sheet (to_read times) (to_read x) (to_read y) (to_read held)).entry work.old lot work.new (valid result) }
+    ensures { Unheld limits tree.now.parent.now tree.now.rank.now rule
+        (sheet_of (read drawing.now) held.now) work.old lot work.new (valid result) }
 {
-    inspect(limits, rule, parent, rank, times, x, y, held, work)?;
+    inspect(limits, rule, tree, drawing, held, work)?;
     test_free(held, lot)
 }
 
 // Whether some place of v's subtree would be beyond the limit when it is moved on by d.
-fn passes(
-    limit: usize,
-    parent: &[u32],
-    rank: &[u32],
-    work: &[u32],
-    places: &[u32],
-    v: usize,
-    d: usize,
-) -> bool
-    requires { NumberedTree parent.now rank.now work.now × (length places.now ≡ length parent.now)
-        × (v < length parent.now) × (d + 2 ^ 32 ≤ 2 ^ 64) }
-    ensures { Passes limit parent.now places.now v d result }
+fn passes(limit: usize, tree: &Numbered<'_>, places: &[u32], v: usize, d: usize) -> bool
+    requires { (length places.now ≡ length tree.now.parent.now) × (v < length tree.now.parent.now)
+        × (d + 2 ^ 32 ≤ 2 ^ 64) }
+    ensures { Passes limit tree.now.parent.now places.now v d result }
 {
-    let n = parent.len();
+    let n = tree.parent.len();
+    let work = tree.work;
     let last = get(work, v);
     let first = get(work, 2 * n + v) - 1;
     for j in first..last {
@@ -124,20 +111,12 @@ fn passes(
 }
 
 // Moves v's subtree on, or back, by d.
-fn move_subtree(
-    parent: &[u32],
-    rank: &[u32],
-    work: &[u32],
-    places: &mut [u32],
-    v: usize,
-    d: usize,
-    longer: bool,
-)
-    requires { NumberedTree parent.now rank.now work.now × Movable parent.now places.old v d longer
-        × (v < length parent.now) }
-    ensures { places.new ≡ moved parent.now (λ a. by longer a d) v places.old }
+fn move_subtree(tree: &Numbered<'_>, places: &mut [u32], v: usize, d: usize, longer: bool)
+    requires { Movable tree.now.parent.now places.old v d longer × (v < length tree.now.parent.now) }
+    ensures { places.new ≡ moved tree.now.parent.now (λ a. by longer a d) v places.old }
 {
-    let n = parent.len();
+    let n = tree.parent.len();
+    let work = tree.work;
     let last = get(work, v);
     let first = get(work, 2 * n + v) - 1;
     for j in first..last {
@@ -151,89 +130,74 @@ fn move_subtree(
 pub fn too_far(
     limit: usize,
     rule: Rule,
-    parent: &[u32],
-    rank: &[u32],
-    times: &[u32],
-    x: &[u32],
-    y: &[u32],
-    work: &[u32],
+    tree: &Numbered<'_>,
+    drawing: &Drawing<'_>,
     v: usize,
     slope: Slope,
     count: u32,
 ) -> bool
-    requires { NumberedTree parent.now rank.now work.now
-        × Drawn limit parent.now rank.now rule (lent times.now x.now y.now)
-        × (v < length parent.now) × (slope ≡ edge parent.now rank.now rule v) }
-    ensures { result ≡ beyond limit (length parent.now)
-        (longer parent.now rank.now rule (drawing (to_read times) (to_read x) (to_read y)).entry v count) }
+    requires { Drawn limit tree.now.parent.now tree.now.rank.now rule (read drawing.now)
+        × (v < length tree.now.parent.now) × (slope ≡ edge tree.now.parent.now tree.now.rank.now rule v) }
+    ensures { result ≡ beyond limit (length tree.now.parent.now)
+        (longer tree.now.parent.now tree.now.rank.now rule (read drawing.now) v count) }
 {
     let c = count as usize;
-    let wide = passes(limit, parent, rank, work, x, v, product(c, slope.across));
+    let wide = passes(limit, tree, drawing.x, v, product(c, slope.across));
     if wide {
         return true;
     }
-    passes(limit, parent, rank, work, y, v, product(c, slope.up))
+    passes(limit, tree, drawing.y, v, product(c, slope.up))
 }
 
 // Makes v's edge, which has this slope, longer or shorter, and moves its subtree along.
 fn stretch(
     rule: Rule,
-    parent: &[u32],
-    rank: &[u32],
-    times: &mut [u32],
-    x: &mut [u32],
-    y: &mut [u32],
-    work: &[u32],
+    tree: &Numbered<'_>,
+    drawing: &mut DrawingMut<'_>,
     v: usize,
     slope: Slope,
     count: u32,
     longer: bool,
 )
-    requires { Stretchable parent.now rank.now rule (lent times.old x.old y.old) work.now
-        v count longer × (slope ≡ edge parent.now rank.now rule v) }
-    ensures { (drawing (to_write times) (to_write x) (to_write y)).exit
-        ≡ stretched (by longer) parent.now rank.now rule
-        (drawing (to_write times) (to_write x) (to_write y)).entry v count }
+    requires { Stretchable tree.now.parent.now tree.now.rank.now rule (written drawing.old) tree.now.work.now
+        v count longer × (slope ≡ edge tree.now.parent.now tree.now.rank.now rule v) }
+    ensures stretched { written drawing.new
+        ≡ stretched (by longer) tree.now.parent.now tree.now.rank.now rule (written drawing.old) v count }
+    ensures lists { SameLists drawing.old drawing.new }
 {
     let c = count as usize;
-    move_subtree(parent, rank, work, x, v, product(c, slope.across), longer);
-    move_subtree(parent, rank, work, y, v, product(c, slope.up), longer);
-    let t = get(times, v);
-    put(times, v, changed(t, c, longer));
+    move_subtree(tree, drawing.x, v, product(c, slope.across), longer);
+    move_subtree(tree, drawing.y, v, product(c, slope.up), longer);
+    let t = drawing.times[v] as usize;
+    put(drawing.times, v, changed(t, c, longer));
 }
 
 // Lengthen on a sheet that is accepted, and whose table is numbered: all but the frame.
 pub fn lengthen_edge(
     limits: Limits,
     rule: Rule,
-    parent: &[u32],
-    rank: &[u32],
-    times: &mut [u32],
-    x: &mut [u32],
-    y: &mut [u32],
+    tree: &Numbered<'_>,
+    drawing: &mut DrawingMut<'_>,
     held: &[u32],
-    work: &[u32],
     lot: u32,
     count: u32,
 ) -> Result<(), Refusal>
-    requires { FramesFit limits × Opened limits parent.now rank.now rule
-        (sheet_of (lent times.old x.old y.old) held.now) work.now }
-    ensures { framing (valid result) (sheet (to_write times) (to_write x) (to_write y) (to_read held)).exit
-        ≡ lengthen limits parent.now rank.now rule
-        (sheet (to_write times) (to_write x) (to_write y) (to_read held)).entry
-        (length work.now) lot count }
+    requires { FramesFit limits × Opened limits tree.now.parent.now tree.now.rank.now rule
+        (sheet_of (written drawing.old) held.now) tree.now.work.now }
+    ensures lengthened { framing (valid result) (sheet_of (written drawing.new) held.now)
+        ≡ lengthen limits tree.now.parent.now tree.now.rank.now rule (sheet_of (written drawing.old) held.now)
+        (length tree.now.work.now) lot count }
+    ensures lists { SameLists drawing.old drawing.new }
 {
     let place = limits.place as usize;
     test_free(held, lot)?;
     let v = lot as usize;
-    let slope = edge_slope(rule, parent, rank, work, v);
-    let far = too_far(
-        place, rule, parent, rank, times, x, y, work, v, slope, count,
-    );
+    let slope = edge_slope(rule, tree, v);
+    let far = too_far(place, rule, tree, &drawing.read(), v, slope, count);
     if far {
         return Err(limits.far.at(v));
     }
-    stretch(rule, parent, rank, times, x, y, work, v, slope, count, true);
+    stretch(rule, tree, drawing, v, slope, count, true);
     Ok(())
 }
 
@@ -241,103 +205,91 @@ pub fn lengthen_edge(
 pub fn lengthen_within(
     limits: Limits,
     rule: Rule,
-    parent: &[u32],
-    rank: &[u32],
-    times: &mut [u32],
-    x: &mut [u32],
-    y: &mut [u32],
+    tree: &Tree<'_>,
+    drawing: &mut DrawingMut<'_>,
     held: &[u32],
     work: &mut [u32],
     lot: u32,
     count: u32,
 ) -> Result<Frame, Refusal>
     requires { FramesFit limits }
-    ensures { Does limits (to_read parent) (to_read rank)
-        (sheet (to_write times) (to_write x) (to_write y) (to_read held)) (to_write work)
+    ensures does { Does limits (parents tree) (ranks tree) (sheet_written drawing (to_read held)) (to_write work)
         (λ P R s m. lengthen limits P R rule s m lot count) (framed result) }
+    ensures lists { SameLists drawing.old drawing.new }
 {
-    inspect(limits, rule, parent, rank, times, x, y, held, work)?;
-    lengthen_edge(
-        limits, rule, parent, rank, times, x, y, held, work, lot, count,
-    )?;
-    Ok(frame_of(x, y))
+    inspect(limits, rule, tree, &drawing.read(), held, work)?;
+    let numbered = Numbered {
+        parent: tree.parent,
+        rank: tree.rank,
+        work,
+    };
+    lengthen_edge(limits, rule, &numbered, drawing, held, lot, count)?;
+    Ok(drawing.read().frame())
 }
 
 // Shorten at any limits whose frames are numbers of 32 bits.
 pub fn shorten_within(
     limits: Limits,
     rule: Rule,
-    parent: &[u32],
-    rank: &[u32],
-    times: &mut [u32],
-    x: &mut [u32],
-    y: &mut [u32],
+    tree: &Tree<'_>,
+    drawing: &mut DrawingMut<'_>,
     held: &[u32],
     work: &mut [u32],
     lot: u32,
     count: u32,
 ) -> Result<Frame, Refusal>
     requires { FramesFit limits }
-    ensures { Does limits (to_read parent) (to_read rank)
-        (sheet (to_write times) (to_write x) (to_write y) (to_read held)) (to_write work)
+    ensures does { Does limits (parents tree) (ranks tree) (sheet_written drawing (to_read held)) (to_write work)
         (λ P R s m. shorten limits P R rule s m lot count) (framed result) }
+    ensures lists { SameLists drawing.old drawing.new }
 {
-    examine_free(limits, rule, parent, rank, times, x, y, held, work, lot)?;
+    examine_free(limits, rule, tree, &drawing.read(), held, work, lot)?;
+    let numbered = Numbered {
+        parent: tree.parent,
+        rank: tree.rank,
+        work,
+    };
     let v = lot as usize;
-    if get(times, v) <= count as usize {
+    if drawing.times[v] <= count {
         return Err(Fault::CountTooLarge.at(v));
     }
-    let slope = edge_slope(rule, parent, rank, work, v);
-    stretch(
-        rule, parent, rank, times, x, y, work, v, slope, count, false,
-    );
-    Ok(frame_of(x, y))
+    let slope = edge_slope(rule, &numbered, v);
+    stretch(rule, &numbered, drawing, v, slope, count, false);
+    Ok(drawing.read().frame())
 }
 
 // Makes the edge of `lot` longer by `count` times its slope, moves the lot's subtree along and returns the frame; on a
 // refusal the sheet stays as it was.
 pub fn lengthen(
     rule: Rule,
-    parent: &[u32],
-    rank: &[u32],
-    times: &mut [u32],
-    x: &mut [u32],
-    y: &mut [u32],
+    tree: &Tree<'_>,
+    drawing: &mut DrawingMut<'_>,
     held: &[u32],
     work: &mut [u32],
     lot: u32,
     count: u32,
 ) -> Result<Frame, Refusal>
-    ensures { Does large (to_read parent) (to_read rank)
-        (sheet (to_write times) (to_write x) (to_write y) (to_read held)) (to_write work)
+    ensures does { Does large (parents tree) (ranks tree) (sheet_written drawing (to_read held)) (to_write work)
         (λ P R s m. lengthen large P R rule s m lot count) (framed result) }
+    ensures lists { SameLists drawing.old drawing.new }
 {
-    let limits = large_limits();
-    lengthen_within(
-        limits, rule, parent, rank, times, x, y, held, work, lot, count,
-    )
+    lengthen_within(large_limits(), rule, tree, drawing, held, work, lot, count)
 }
 
 // Makes the edge of `lot` shorter by `count` times its slope, moves the lot's subtree back and returns the frame; on a
 // refusal the sheet stays as it was.
 pub fn shorten(
     rule: Rule,
-    parent: &[u32],
-    rank: &[u32],
-    times: &mut [u32],
-    x: &mut [u32],
-    y: &mut [u32],
+    tree: &Tree<'_>,
+    drawing: &mut DrawingMut<'_>,
     held: &[u32],
     work: &mut [u32],
     lot: u32,
     count: u32,
 ) -> Result<Frame, Refusal>
-    ensures { Does large (to_read parent) (to_read rank)
-        (sheet (to_write times) (to_write x) (to_write y) (to_read held)) (to_write work)
+    ensures does { Does large (parents tree) (ranks tree) (sheet_written drawing (to_read held)) (to_write work)
         (λ P R s m. shorten large P R rule s m lot count) (framed result) }
+    ensures lists { SameLists drawing.old drawing.new }
 {
-    let limits = large_limits();
-    shorten_within(
-        limits, rule, parent, rank, times, x, y, held, work, lot, count,
-    )
+    shorten_within(large_limits(), rule, tree, drawing, held, work, lot, count)
 }

@@ -10,24 +10,21 @@ loop-j-init c = (
   above_start c.requires.0.numbered.tree c.requires.1,
 )
 
-pub node_at-v-requires : goal.node_at-v-requires
-node_at-v-requires c = (c.loop-j.invariant.0.numbered, c.loop-j-test.true, c.loop-j.invariant.0.low)
-
 pub node_fits-fits-requires : goal.node_fits-fits-requires
 node_fits-fits-requires c = (
   c.requires.0,
   c.node_at-v.ensures.above,
   c.node_at-v.ensures.inside,
   backward_edge c.loop-j.invariant.0
-      c.loop-j-test.true c.node_at-v.ensures,
+      (omega arith) c.node_at-v.ensures,
 )
 
 pub slope_before-before-requires : goal.slope_before-before-requires
-slope_before-before-requires c = backward_ready c.loop-j.invariant.0 c.loop-j-test.true
+slope_before-before-requires c = backward_ready c.loop-j.invariant.0 (omega arith)
 
 pub loop-j-preserved : goal.loop-j-preserved
 loop-j-preserved c = (
-  backward_step c.loop-j.invariant.0 c.loop-j-test.true c.slope_before-before.ensures,
+  backward_step c.loop-j.invariant.0 (omega arith) c.slope_before-before.ensures,
   above_step c.loop-j.invariant.1 c.node_at-v.ensures c.node_fits-fits.ensures c.if-not-fits.false,
 )
 
@@ -35,7 +32,7 @@ pub returns-then-not-fits : goal.returns-then-not-fits
 returns-then-not-fits c = above_not c.node_at-v.ensures c.node_fits-fits.ensures c.if-not-fits.true
 
 pub returns : goal.returns
-returns c = above_end c.loop-j.invariant.1 c.loop-j-test.false
+returns c = above_end c.loop-j.invariant.1 (omega arith)
 
 pub bordered_at-here-requires : goal.bordered_at-here-requires
 bordered_at-here-requires c = (omega arith, omega arith, omega arith)

@@ -11,24 +11,16 @@ returns-then-get-ne0 c =
     (λ l. root_misheld _ c.get.ensures.0 c.if-get-ne0.true)
 
 pub loop-z-init : goal.loop-z-init
-loop-z-init c = (
-  omega arith,
-  omega arith,
-  below_more _ 0 (below_none _) (root_unheld _ c.get.ensures.0 c.if-get-ne0.false),
-)
+loop-z-init c = below_more _ 0 (below_none _) (root_unheld _ c.get.ensures.0 c.if-get-ne0.false)
 
 pub returns-then-get-gt1 : goal.returns-then-get-gt1
 returns-then-get-gt1 c =
-    least_is _ _ _ (omega arith) c.loop-z.invariant.2
-    (λ l. node_misheld _ _ c.loop-z.invariant.0 c.get-in-loop-z.ensures.0 c.if-get-gt1.true)
+    least_is _ _ _ (omega arith) c.loop-z.invariant
+    (λ l. node_misheld _ _ c.loop-z.auto.z c.get-in-loop-z.ensures.0 c.if-get-gt1.true)
 
 pub loop-z-preserved : goal.loop-z-preserved
-loop-z-preserved c = (
-  omega arith,
-  omega arith,
-  below_more _ _ c.loop-z.invariant.2
-      (node_well _ _ c.loop-z.invariant.0 c.get-in-loop-z.ensures.0 c.if-get-gt1.false),
-)
+loop-z-preserved c =
+    below_more _ _ c.loop-z.invariant (node_well _ _ c.loop-z.auto.z c.get-in-loop-z.ensures.0 c.if-get-gt1.false)
 
 pub returns : goal.returns
-returns c = least_is _ _ _ (omega arith) (λ k l. c.loop-z.invariant.2 k (omega arith)) (λ l. absurd (omega arith))
+returns c = least_is _ _ _ (omega arith) (λ k l. c.loop-z.invariant k (omega arith)) (λ l. absurd (omega arith))

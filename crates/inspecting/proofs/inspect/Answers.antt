@@ -22,7 +22,7 @@ pub returns-then-v-n : goal.returns-then-v-n
 returns-then-v-n c =
     rw c.at.ensures (inspecting_8 _ c.in_ok-prepare.ensures refl
     (first_fault _ _ _ _ _ c.first_misfit-u.ensures c.first_misheld.ensures
-    (c.in_ok-prepare.ensures.left refl).held c.smaller-v.ensures)
+    (c.in_ok-prepare.ensures.left refl).held c.min-v.ensures)
     c.if-v-n.true)
 
 pub returns-in_err-prepare : goal.returns-in_err-prepare
@@ -34,5 +34,5 @@ pub returns : goal.returns
 returns c =
     inspecting_all _ c.in_ok-prepare.ensures refl
     (first_fault _ _ _ _ _ c.first_misfit-u.ensures c.first_misheld.ensures
-    (c.in_ok-prepare.ensures.left refl).held c.smaller-v.ensures)
+    (c.in_ok-prepare.ensures.left refl).held c.min-v.ensures)
     c.if-v-n.false

@@ -7,7 +7,7 @@ pub loop-v-init : goal.loop-v-init
 loop-v-init c = below_start c.requires.0.numbered.tree.some c.requires.1
 
 pub edge_slope-slope-requires : goal.edge_slope-slope-requires
-edge_slope-slope-requires c = (c.requires.0.numbered, omega arith, c.loop-v-test.true)
+edge_slope-slope-requires c = (omega arith, c.loop-v-test.true)
 
 pub node_fits-fits-requires : goal.node_fits-fits-requires
 node_fits-fits-requires c = (c.requires.0, omega arith, c.loop-v-test.true, c.edge_slope-slope.ensures)

@@ -1,13 +1,12 @@
 -- The first test that fails decides.
 use native.Mathlib.Omega.{arith}
-use Rattle.drawing.specs.Drawing.{lent}
+use Rattle.drawing.specs.Lists.{read}
 use Rattle.inspecting.proofs.Fitting.{fits_never, fits_not_x, fits_x}
 use Rattle.inspecting.proofs.node_fits.Goals as goal
 
 pub returns-then-t-lt1 : goal.returns-then-t-lt1
 returns-then-t-lt1 c =
-    let drawing = lent c.args.times.now c.args.x.now c.args.y.now in
-    fits_never _ _ _ _ drawing c.requires.1 c.get-t.ensures.0 c.if-t-lt1.true
+    fits_never _ _ _ _ (read c.args.drawing.now) c.requires.1 c.get-t.ensures.0 c.if-t-lt1.true
 
 pub placed-right-requires : goal.placed-right-requires
 placed-right-requires c =

@@ -6,13 +6,13 @@ use Rattle.stretching.proofs.move_subtree.Goals as goal
 use Rattle.stretching.proofs.move_subtree.Goals.{After-get-z}
 
 pub overflow_sub-first : goal.overflow_sub-first
-overflow_sub-first c = first_some c.requires.0 _ c.requires.2 c.get-first.ensures.0
+overflow_sub-first c = first_some c.args.tree.now.tree _ c.requires.1 c.get-first.ensures.0
 
 pub loop-j-init : goal.loop-j-init
-loop-j-init c = moving_start c.requires.0 c.requires.1 c.requires.2 c.get-last.ensures.0 c.get-first.ensures.0
+loop-j-init c = moving_start c.args.tree.now.tree c.requires.0 c.requires.1 c.get-last.ensures.0 c.get-first.ensures.0
 
 -- the node at hand
-node : (c : After-get-z) → Visit c.args.parent.now c.args.rank.now c.args.v c.loop-j.j c.get-z.result
+node : (c : After-get-z) → Visit c.args.tree.now.parent.now c.args.tree.now.rank.now c.args.v c.loop-j.j c.get-z.result
 node c = walk_node c.loop-j.invariant.walk c.loop-j-test.true c.get-z.ensures.0
 
 pub get-place-requires : goal.get-place-requires
