@@ -11,7 +11,7 @@ ghost use Rattle.treefile.specs.Saved.{saved};
 ghost use Rattle.treefile.specs.TreeFile.{word_at, words, stated_or_zero, Read, Wrote};
 
 use faults::{Fault, Refusal};
-use table::Limits;
+use table::{Limits, Tree};
 
 // The number in the 4 bytes from i on, least byte first.
 fn word(bytes: &[u8], i: usize) -> usize
@@ -69,7 +69,8 @@ fn load(
     save(rank, work, 3 * n);
     decode(bytes, 4, parent);
     decode(bytes, 4 + 4 * n, rank);
-    if let Err(refusal) = table::validate(limits, parent, rank, true, work) {
+    let tree = Tree { parent, rank };
+    if let Err(refusal) = tree.validate(limits, true, work) {
         table::copy_out(work, 2 * n, parent);
         table::copy_out(work, 3 * n, rank);
         return Err(refusal);
@@ -116,11 +117,11 @@ pub fn read_tree_within(
 }
 
 // Writes a number's 4 bytes from i on, least byte first.
-fn put_word(bytes: &mut [u8], i: usize, w: usize)
+fn put_word(bytes: &mut [u8], i: usize, w: u32)
     requires { i + 3 < length bytes.old }
     ensures { WordPut bytes.old bytes.new i w }
 {
-    bytes[i..i + 4].copy_from_slice(&w.to_le_bytes()[..4]);
+    bytes[i..i + 4].copy_from_slice(&w.to_le_bytes());
 }
 
 // Writes the list's numbers from a on.
@@ -129,7 +130,7 @@ fn encode(list: &[u32], bytes: &mut [u8], a: usize)
     ensures { Encoded list.now bytes.old bytes.new a }
 {
     for (v, w) in list.iter().enumerate() {
-        put_word(bytes, a + 4 * v, *w as usize);
+        put_word(bytes, a + 4 * v, *w);
     }
 }
 
@@ -137,22 +138,21 @@ fn encode(list: &[u32], bytes: &mut [u8], a: usize)
 // long. Nothing is written on a refusal.
 pub fn write_tree_within(
     limits: Limits,
-    parent: &[u32],
-    rank: &[u32],
+    tree: &Tree<'_>,
     bytes: &mut [u8],
     work: &mut [u32],
 ) -> Result<usize, Refusal>
-    ensures { Wrote limits parent.now rank.now bytes.old work.old
+    ensures { Wrote limits tree.now.parent.now tree.now.rank.now bytes.old work.old
         bytes.new work.new (saved result) }
 {
-    let n = parent.len();
-    table::validate(limits, parent, rank, true, work)?;
+    let n = tree.parent.len();
+    tree.validate(limits, true, work)?;
     if bytes.len() != 4 + 8 * n {
         return Err(Fault::WrongFileLength.at(0));
     }
-    put_word(bytes, 0, n);
-    encode(parent, bytes, 4);
-    encode(rank, bytes, 4 + 4 * n);
+    put_word(bytes, 0, n as u32);
+    encode(tree.parent, bytes, 4);
+    encode(tree.rank, bytes, 4 + 4 * n);
     Ok(4 + 8 * n)
 }
 
@@ -171,15 +171,10 @@ pub fn read_tree(
 }
 
 // Writes the file of an accepted table of at most 65,536 nodes.
-pub fn write_tree(
-    parent: &[u32],
-    rank: &[u32],
-    bytes: &mut [u8],
-    work: &mut [u32],
-) -> Result<usize, Refusal>
-    ensures { Wrote large parent.now rank.now bytes.old work.old
+pub fn write_tree(tree: &Tree<'_>, bytes: &mut [u8], work: &mut [u32]) -> Result<usize, Refusal>
+    ensures { Wrote large tree.now.parent.now tree.now.rank.now bytes.old work.old
         bytes.new work.new (saved result) }
 {
     let limits = table::large_limits();
-    write_tree_within(limits, parent, rank, bytes, work)
+    write_tree_within(limits, tree, bytes, work)
 }

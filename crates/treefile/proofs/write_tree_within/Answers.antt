@@ -12,6 +12,9 @@ returns-in_err-validate c =
 pub returns-then-bytes-n : goal.returns-then-bytes-n
 returns-then-bytes-n c = rw c.at.ensures (wrote_17 c.in_ok-validate.ensures refl _ c.if-bytes-n.true)
 
+pub overflow_cast-n : goal.overflow_cast-n
+overflow_cast-n c = omega (arith, (accepted c.in_ok-validate.ensures refl).shape.few)
+
 pub encode-requires-2 : goal.encode-requires-2
 encode-requires-2 c =
     omega (

@@ -1,7 +1,0 @@
--- At the large limits.
-use Rattle.treefile.proofs.write_tree.Goals as goal
-
-pub returns : goal.returns
-returns c =
-    rw c.large_limits-limits.ensures at
-    c.write_tree_within.ensures
