@@ -27,7 +27,7 @@ ghost use Rattle.monotone.specs.Cones.{Alone, Growing};
 ghost use Rattle.monotone.specs.Cones.{Grown};
 
 use faults::Refusal;
-use table::{Limits, both_long, checked_limits, clear, get, number, put, validate};
+use table::{Limits, Tree, both_long, checked_limits, clear, get, put};
 
 // What the check finds: every pair has a direction, or the first pair that has none.
 #[derive(Clone, Copy)]
@@ -303,12 +303,13 @@ fn test_places(limits: Limits, x: &[u32], y: &[u32]) -> Result<(), Refusal>
 }
 
 // The check of an accepted table with places within the limit.
-fn judge(parent: &[u32], rank: &[u32], x: &[u32], y: &[u32], work: &mut [u32]) -> Finding
-    requires { Judged parent.now rank.now x.now y.now work.old }
-    ensures { Found parent.now x.now y.now (found result) }
+fn judge(tree: &Tree<'_>, x: &[u32], y: &[u32], work: &mut [u32]) -> Finding
+    requires { Judged tree.now.parent.now tree.now.rank.now x.now y.now work.old }
+    ensures { Found tree.now.parent.now x.now y.now (found result) }
 {
+    let parent = tree.parent;
     let n = parent.len();
-    number(parent, rank, work);
+    tree.number(work);
     offsets(x, parent, work, n);
     offsets(y, parent, work, 2 * n);
     pairs(parent, work)
@@ -317,35 +318,27 @@ fn judge(parent: &[u32], rank: &[u32], x: &[u32], y: &[u32], work: &mut [u32]) -
 // The check at given limits.
 fn check_within(
     limits: Limits,
-    parent: &[u32],
-    rank: &[u32],
+    tree: &Tree<'_>,
     x: &[u32],
     y: &[u32],
     work: &mut [u32],
 ) -> Result<Finding, Refusal>
     requires { (limits.nodes ≤ large.nodes) × (limits.place ≤ farthest) }
-    ensures { Checked limits parent.now rank.now x.now y.now
+    ensures { Checked limits tree.now.parent.now tree.now.rank.now x.now y.now
         work.old work.new (verdict result) }
 {
-    let n = parent.len();
-    let long = both_long(n, x, y);
-    validate(limits, parent, rank, long, work)?;
+    let long = both_long(tree.parent.len(), x, y);
+    tree.validate(limits, long, work)?;
     test_places(limits, x, y)?;
-    Ok(judge(parent, rank, x, y, work))
+    Ok(judge(tree, x, y, work))
 }
 
 // Whether the drawing of a table is monotone: the first pair, by number, whose tree path rises along no direction. The
 // work list is 4n long; refusals 1, 14 and 3 leave it alone.
-pub fn check(
-    parent: &[u32],
-    rank: &[u32],
-    x: &[u32],
-    y: &[u32],
-    work: &mut [u32],
-) -> Result<Finding, Refusal>
-    ensures { Checked checked parent.now rank.now x.now y.now
+pub fn check(tree: &Tree<'_>, x: &[u32], y: &[u32], work: &mut [u32]) -> Result<Finding, Refusal>
+    ensures { Checked checked tree.now.parent.now tree.now.rank.now x.now y.now
         work.old work.new (verdict result) }
 {
     let limits = checked_limits();
-    check_within(limits, parent, rank, x, y, work)
+    check_within(limits, tree, x, y, work)
 }

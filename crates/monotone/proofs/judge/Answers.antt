@@ -1,5 +1,5 @@
 -- The edges and the order stand in their regions, so the pairs can be gone through.
-use Rattle.monotone.proofs.Judging.{drawn, with_edges, ordered}
+use Rattle.monotone.proofs.Judging.{with_edges, ordered}
 use Rattle.monotone.proofs.judge.Goals as goal
 
 pub pairs-requires : goal.pairs-requires
@@ -10,9 +10,3 @@ pairs-requires c = (
   (ordered c.requires c.number.ensures c.offsets.ensures.drawn_part c.offsets.ensures.only
       c.offsets-2.ensures.drawn_part c.offsets-2.ensures.only),
 )
-
-pub returns : goal.returns
-returns c =
-    c.pairs.ensures c.args.x.now c.args.y.now
-    (drawn c.requires c.number.ensures c.offsets.ensures.drawn_part c.offsets.ensures.only
-    c.offsets-2.ensures.drawn_part c.offsets-2.ensures.only)
