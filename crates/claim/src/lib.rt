@@ -5,14 +5,24 @@
 ghost use Rattle.std.specs.Prelude.{◌≡◌, length};
 ghost use Rattle.table.specs.Table.{large};
 ghost use Rattle.drawing.specs.Drawing.{sheet, to_write};
+ghost use Rattle.drawing.specs.Framed.{framed};
 ghost use Rattle.claim.specs.Claim.{make, run};
-ghost use Rattle.claim.specs.Replay.{call_of, calls_to, Replayed};
+ghost use Rattle.claim.specs.Replay.{call_of, calls_of, Replayed};
 
-use drawing::Framed;
+use drawing::Frame;
+use faults::Refusal;
 use slopes::Rule;
 
-// Makes one call: kind 0 lengthens, 1 shortens, and any other holds, or frees where the count is 0. A refused one
-// changes nothing.
+// One call on a sheet.
+#[derive(Clone, Copy)]
+pub enum Step {
+    Lengthen { lot: u32, count: u32 },
+    Shorten { lot: u32, count: u32 },
+    Hold { lot: u32, on: bool },
+}
+
+// Makes one call. A refused one changes nothing.
+#[tactic(auto, unfolding(crate::specs::Claim::make, crate::specs::Replay::call_of))]
 fn make_call(
     rule: Rule,
     parent: &[u32],
@@ -22,25 +32,27 @@ fn make_call(
     y: &mut [u32],
     held: &mut [u32],
     work: &mut [u32],
-    kind: u32,
-    lot: u32,
-    count: u32,
-) -> Framed
+    step: Step,
+)
     ensures { (sheet (to_write times) (to_write x) (to_write y) (to_write held)).exit
         ≡ (make large parent.now rank.now rule
         (sheet (to_write times) (to_write x) (to_write y) (to_write held)).entry
-        (call_of kind lot count (length work.old))).left }
+        (call_of step (length work.old))).left }
 {
-    if kind == 0 {
-        return stretching::lengthen(rule, parent, rank, times, x, y, held, work, lot, count);
+    match step {
+        Step::Lengthen { lot, count } => {
+            let _ = stretching::lengthen(rule, parent, rank, times, x, y, held, work, lot, count);
+        }
+        Step::Shorten { lot, count } => {
+            let _ = stretching::shorten(rule, parent, rank, times, x, y, held, work, lot, count);
+        }
+        Step::Hold { lot, on } => {
+            let _ = holding::hold(rule, parent, rank, times, x, y, held, work, lot, on);
+        }
     }
-    if kind == 1 {
-        return stretching::shorten(rule, parent, rank, times, x, y, held, work, lot, count);
-    }
-    holding::hold(rule, parent, rank, times, x, y, held, work, lot, count != 0)
 }
 
-// Makes the calls of the lists in order.
+// Makes the calls in order.
 fn make_calls(
     rule: Rule,
     parent: &[u32],
@@ -50,31 +62,18 @@ fn make_calls(
     y: &mut [u32],
     held: &mut [u32],
     work: &mut [u32],
-    kinds: &[u32],
-    lots: &[u32],
-    counts: &[u32],
+    steps: &[Step],
 )
-    requires { (length lots.now ≡ length kinds.now) × (length counts.now ≡ length kinds.now) }
     ensures { (sheet (to_write times) (to_write x) (to_write y) (to_write held)).exit
         ≡ run large parent.now rank.now rule (sheet (to_write times) (to_write x) (to_write y) (to_write held)).entry
-        (calls_to kinds.now lots.now counts.now (length work.old)
-        (length kinds.now)) }
+        (calls_of steps.now (length work.old)) }
 {
-    let m = kinds.len();
-    let mut i = 0;
-    while i < m {
-        let kind = kinds[i];
-        let lot = lots[i];
-        let count = counts[i];
-        make_call(
-            rule, parent, rank, times, x, y, held, work, kind, lot, count,
-        );
-        i += 1;
+    for step in steps {
+        make_call(rule, parent, rank, times, x, y, held, work, *step);
     }
 }
 
-// Lays the tree out and makes the calls of three lists of one length; the reply is layout's. Where layout refuses, no
-// call is made.
+// Lays the tree out and makes the calls; the reply is layout's. Where layout refuses, no call is made.
 pub fn replay(
     rule: Rule,
     parent: &[u32],
@@ -84,23 +83,14 @@ pub fn replay(
     y: &mut [u32],
     held: &mut [u32],
     work: &mut [u32],
-    kinds: &[u32],
-    lots: &[u32],
-    counts: &[u32],
-) -> Framed
-    requires { (length lots.now ≡ length kinds.now) × (length counts.now ≡ length kinds.now) }
+    steps: &[Step],
+) -> Result<Frame, Refusal>
     ensures { Replayed large parent.now rank.now rule
         (sheet (to_write times) (to_write x) (to_write y) (to_write held)).entry
-        (length work.old) kinds.now lots.now counts.now
-        (sheet (to_write times) (to_write x) (to_write y) (to_write held)).exit result }
+        (length work.old) steps.now
+        (sheet (to_write times) (to_write x) (to_write y) (to_write held)).exit (framed result) }
 {
-    match drawing::layout(rule, parent, rank, times, x, y, held, work) {
-        Framed::Refused(number, lot) => Framed::Refused(number, lot),
-        Framed::Frame(width, height) => {
-            make_calls(
-                rule, parent, rank, times, x, y, held, work, kinds, lots, counts,
-            );
-            Framed::Frame(width, height)
-        }
-    }
+    let frame = drawing::layout(rule, parent, rank, times, x, y, held, work)?;
+    make_calls(rule, parent, rank, times, x, y, held, work, steps);
+    Ok(frame)
 }

@@ -1,20 +1,16 @@
--- The calls before the i-th are made.
+-- What is left are the calls of the steps from the next one on.
 use mathlib.Core.Path.{◌≡◌}
-use Prim.Native.Nat.{◌-◌}
-use lib.ListN.{length}
+use lib.ListN.{length, drop}
 use Rattle.table.specs.Table.{large}
 use Rattle.drawing.specs.Drawing.{lent, sheet_of}
-use Rattle.claim.proofs.Replaying.{Running}
+use Rattle.claim.specs.Claim.{run}
+use Rattle.claim.specs.Replay.{calls_of}
 use Rattle.claim.proofs.make_calls.Given as goal
 
-abbrev pub invariant-loop-i : goal.invariant-loop-i
-invariant-loop-i l =
-    Running large l.parent l.rank l.rule (sheet_of (lent l.initial.times l.initial.x l.initial.y) l.initial.held)
-    (length l.initial.work) l.kinds l.lots l.counts
-    (sheet_of (lent l.times l.x l.y) l.held) l.i
-    × (length l.times ≡ length l.initial.times) × (length l.x ≡ length l.initial.x)
-    × (length l.y ≡ length l.initial.y) × (length l.held ≡ length l.initial.held)
-    × (length l.work ≡ length l.initial.work)
-
-abbrev pub decreases-loop-i : goal.decreases-loop-i
-decreases-loop-i l = length l.kinds - l.i
+abbrev pub invariant-loop-step : goal.invariant-loop-step
+invariant-loop-step l =
+    let work = length l.initial.work in
+    let start = sheet_of (lent l.initial.times l.initial.x l.initial.y) l.initial.held in
+    let now = sheet_of (lent l.times l.x l.y) l.held in
+    run large l.parent l.rank l.rule now (calls_of (drop l.step-index l.steps) work)
+    ≡ run large l.parent l.rank l.rule start (calls_of l.steps work)

@@ -1,13 +1,17 @@
 -- Layout's outcome, and the calls made on it.
-use Rattle.claim.proofs.Replaying.{replayed_refused, replayed_all}
+use mathlib.Core.Path.{refl}
+use Rattle.std.proofs.lemmas.Result.{err_from_is_err_and}
+use Rattle.drawing.specs.Drawing.{accepted}
+use Rattle.claim.specs.Replay.{after}
+use Rattle.claim.proofs.Replaying.{replayed}
 use Rattle.claim.proofs.replay.Goals as goal
 
-pub returns-in-Refused : goal.returns-in-Refused
-returns-in-Refused c =
-    replayed_refused _ _ _ _ _ _ c.layout.ensures.says _ _ _
-    c.in-Refused.is
+pub returns-in_err-frame : goal.returns-in_err-frame
+unfolding after accepted
+returns-in_err-frame c =
+    let p = err_from_is_err_and c.from_residual.result c.from_residual.ensures.1 in
+    rw (p.1, p.2) (replayed _ _ _ _ _ _ c.in_err-frame.ensures.says refl refl)
 
-pub returns-in-Frame : goal.returns-in-Frame
-returns-in-Frame c =
-    replayed_all _ _ _ _ _ _ c.layout.ensures.says _ _ _ c.in-Frame.is
-    c.layout.ensures.long c.make_calls.ensures
+pub returns : goal.returns
+unfolding after accepted
+returns c = replayed _ _ _ _ _ _ c.in_ok-frame.ensures.says c.in_ok-frame.ensures.long c.make_calls.ensures
