@@ -2,7 +2,7 @@
 use mathlib.Core.Bool.{Bool, false, not}
 use mathlib.Core.List.{List}
 use mathlib.Core.Option.{Option, none, some}
-use mathlib.Core.Path.{◌≡◌, refl, sym, ap, ◌∙◌}
+use mathlib.Core.Path.{◌≡◌, refl, sym, ap, subst, ◌∙◌}
 use Prim.Native.Nat.{ℕ}
 use native.Mathlib.Omega.{arith}
 use lib.Dec.{eqb}
@@ -16,7 +16,7 @@ use Rattle.table.specs.Validity.{Validity}
 use Rattle.table.specs.Validity.{Accepted, Refused}
 use Rattle.table.specs.Table.{shape_fault, tree_fault, table_fault, Called}
 use Rattle.slopes.specs.declared.Rule.{Rule}
-use Rattle.drawing.specs.Drawing.{Sheet, lengths_fit, lot_fits, sheet_fault}
+use Rattle.drawing.specs.Drawing.{Drawing, Sheet, sheet_of, lengths_fit, lot_fits, sheet_fault}
 use Rattle.inspecting.specs.Parts.{Inspecting}
 use Rattle.stretching.proofs.Openings.{opened}
 use Rattle.arranging.specs.Arranged.{Arranged}
@@ -118,3 +118,10 @@ module _ {L : Limits} {P R : List ℕ} {rule : Rule} {s : Sheet} {W : List ℕ} 
     spared = p.spared;
     long = p.long;
   }
+
+-- of the drawing in the same lists, read another way
+pub listed_as : (rule : Rule) {L : Limits} {P R : List ℕ} {d e : Drawing} {H W X : List ℕ} {r : Validity} → d ≡ e
+    → (lots counts : List ℕ) → Listed L P R rule (sheet_of d H) W lots counts X r
+    → Listed L P R rule (sheet_of e H) W lots counts X r
+listed_as rule {L} {P} {R} {H = H} {W} {X} {r} is lots counts p =
+    subst (λ (d : Drawing). Listed L P R rule (sheet_of d H) W lots counts X r) is p

@@ -4,19 +4,20 @@
 ghost use Rattle.std.specs.Prelude.{◌≡◌, length};
 ghost use Rattle.table.specs.Table.{large};
 ghost use Rattle.table.specs.Validity.{valid};
-ghost use Rattle.drawing.specs.Drawing.{lent, sheet_of, sheet, to_read, to_write};
+ghost use Rattle.drawing.specs.Drawing.{sheet_of, to_read, to_write};
+ghost use Rattle.drawing.specs.Lists.{read, written, SameLists, parents, ranks, sheet_written};
 ghost use Rattle.drawing.specs.Parts.{FramesFit};
 ghost use Rattle.stretching.specs.Parts.{Opened};
 ghost use Rattle.arranging.specs.Arranged.{arranged};
 ghost use Rattle.arranging.specs.Arranging.{in_turn, Arranges};
 ghost use Rattle.arranging.specs.Parts.{Listed};
 
-use drawing::{Frame, all_long, frame_of};
+use drawing::{Drawing, DrawingMut, Frame};
 use faults::{Fault, Refusal};
 use inspecting::inspect;
 use slopes::Rule;
 use stretching::lengthen_edge;
-use table::{Limits, large_limits, test_lengths};
+use table::{Limits, Numbered, Tree, large_limits};
 
 // A refusal, and the place in the lists of the lengthen that it stops, from 1: 0 where it stops them all.
 #[derive(Clone, Copy)]
@@ -38,25 +39,21 @@ impl From<Refusal> for Stopped {
 fn inspect_lists(
     limits: Limits,
     rule: Rule,
-    parent: &[u32],
-    rank: &[u32],
-    times: &[u32],
-    x: &[u32],
-    y: &[u32],
+    tree: &Tree<'_>,
+    drawing: &Drawing<'_>,
     held: &[u32],
     work: &mut [u32],
     lots: &[u32],
     counts: &[u32],
 ) -> Result<(), Refusal>
-    ensures { Listed limits parent.now rank.now rule
-        (sheet (to_read times) (to_read x) (to_read y) (to_read held)).entry
+    ensures { Listed limits tree.now.parent.now tree.now.rank.now rule (sheet_of (read drawing.now) held.now)
         work.old lots.now counts.now work.new (valid result) }
 {
     if lots.len() == counts.len() {
-        return inspect(limits, rule, parent, rank, times, x, y, held, work);
+        return inspect(limits, rule, tree, drawing, held, work);
     }
-    let long = all_long(parent.len(), times, x, y, held);
-    test_lengths(limits, parent, rank, long, work)?;
+    let long = drawing.all_long(tree.parent.len(), held);
+    tree.test_lengths(limits, long, work)?;
     Err(Fault::ListsDiffer.at(0))
 }
 
@@ -65,64 +62,55 @@ fn inspect_lists(
 fn lengthen_in_turn(
     limits: Limits,
     rule: Rule,
-    parent: &[u32],
-    rank: &[u32],
-    times: &mut [u32],
-    x: &mut [u32],
-    y: &mut [u32],
+    tree: &Numbered<'_>,
+    drawing: &mut DrawingMut<'_>,
     held: &[u32],
-    work: &[u32],
     lots: &[u32],
     counts: &[u32],
 ) -> Result<Frame, Stopped>
-    requires { FramesFit limits × Opened limits parent.now rank.now rule
-        (sheet_of (lent times.old x.old y.old) held.now) work.now
+    requires { FramesFit limits × Opened limits tree.now.parent.now tree.now.rank.now rule
+        (sheet_of (written drawing.old) held.now) tree.now.work.now
         × (length counts.now ≡ length lots.now) }
-    ensures { record {
-      answer = arranged result;
-      left =
-          (sheet (to_write times) (to_write x) (to_write y) (to_read held)).exit;
-    }
-        ≡ in_turn limits parent.now rank.now rule (length work.now)
-        (sheet (to_write times) (to_write x) (to_write y) (to_read held)).entry 1 lots.now counts.now }
+    ensures turns { record { answer = arranged result; left = sheet_of (written drawing.new) held.now }
+        ≡ in_turn limits tree.now.parent.now tree.now.rank.now rule (length tree.now.work.now)
+        (sheet_of (written drawing.old) held.now) 1 lots.now counts.now }
+    ensures lists { SameLists drawing.old drawing.new }
 {
     for (i, (lot, count)) in lots.iter().zip(counts).enumerate() {
-        let done = lengthen_edge(
-            limits, rule, parent, rank, times, x, y, held, work, *lot, *count,
-        );
+        let done = lengthen_edge(limits, rule, tree, drawing, held, *lot, *count);
         if let Err(refusal) = done {
             let place = i + 1;
             return Err(Stopped { refusal, place });
         }
     }
-    Ok(frame_of(x, y))
+    Ok(drawing.read().frame())
 }
 
 // Lengthen each at any limits whose frames are numbers of 32 bits.
 pub fn lengthen_each_within(
     limits: Limits,
     rule: Rule,
-    parent: &[u32],
-    rank: &[u32],
-    times: &mut [u32],
-    x: &mut [u32],
-    y: &mut [u32],
+    tree: &Tree<'_>,
+    drawing: &mut DrawingMut<'_>,
     held: &[u32],
     work: &mut [u32],
     lots: &[u32],
     counts: &[u32],
 ) -> Result<Frame, Stopped>
     requires { FramesFit limits }
-    ensures { Arranges limits (to_read parent) (to_read rank) rule
-        (sheet (to_write times) (to_write x) (to_write y) (to_read held))
+    ensures arranges { Arranges limits (parents tree) (ranks tree) rule (sheet_written drawing (to_read held))
         (to_write work) (to_read lots) (to_read counts) (arranged result) }
+    ensures lists { SameLists drawing.old drawing.new }
 {
     inspect_lists(
-        limits, rule, parent, rank, times, x, y, held, work, lots, counts,
+        limits, rule, tree, &drawing.read(), held, work, lots, counts,
     )?;
-    lengthen_in_turn(
-        limits, rule, parent, rank, times, x, y, held, work, lots, counts,
-    )
+    let numbered = Numbered {
+        parent: tree.parent,
+        rank: tree.rank,
+        work,
+    };
+    lengthen_in_turn(limits, rule, &numbered, drawing, held, lots, counts)
 }
 
 // Makes the edge of each lot in the list longer by its count, one after another, and returns the frame. The first that
@@ -130,22 +118,18 @@ pub fn lengthen_each_within(
 // 8, and 19, come before all and have place 0.
 pub fn lengthen_each(
     rule: Rule,
-    parent: &[u32],
-    rank: &[u32],
-    times: &mut [u32],
-    x: &mut [u32],
-    y: &mut [u32],
+    tree: &Tree<'_>,
+    drawing: &mut DrawingMut<'_>,
     held: &[u32],
     work: &mut [u32],
     lots: &[u32],
     counts: &[u32],
 ) -> Result<Frame, Stopped>
-    ensures { Arranges large (to_read parent) (to_read rank) rule
-        (sheet (to_write times) (to_write x) (to_write y) (to_read held))
+    ensures arranges { Arranges large (parents tree) (ranks tree) rule (sheet_written drawing (to_read held))
         (to_write work) (to_read lots) (to_read counts) (arranged result) }
+    ensures lists { SameLists drawing.old drawing.new }
 {
-    let limits = large_limits();
     lengthen_each_within(
-        limits, rule, parent, rank, times, x, y, held, work, lots, counts,
+        large_limits(), rule, tree, drawing, held, work, lots, counts,
     )
 }

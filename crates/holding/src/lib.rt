@@ -3,16 +3,17 @@
 
 ghost use Rattle.std.specs.Prelude.{◌≡◌, ◌<◌, length, set};
 ghost use Rattle.table.specs.Table.{large};
-ghost use Rattle.drawing.specs.Drawing.{sheet, Does, to_read, to_write};
+ghost use Rattle.drawing.specs.Drawing.{Does, to_write};
+ghost use Rattle.drawing.specs.Lists.{parents, ranks, sheet_read};
 ghost use Rattle.drawing.specs.Framed.{framed};
 ghost use Rattle.drawing.specs.Parts.{FramesFit};
 ghost use Rattle.holding.specs.Holding.{entry, hold};
 
-use drawing::{Frame, frame_of};
+use drawing::{Drawing, Frame};
 use faults::Refusal;
 use slopes::Rule;
 use stretching::examine;
-use table::{Limits, large_limits, put};
+use table::{Limits, Tree, large_limits, put};
 
 // Sets or clears the entry of v.
 fn mark(held: &mut [u32], v: usize, on: bool)
@@ -30,44 +31,35 @@ fn mark(held: &mut [u32], v: usize, on: bool)
 pub fn hold_within(
     limits: Limits,
     rule: Rule,
-    parent: &[u32],
-    rank: &[u32],
-    times: &[u32],
-    x: &[u32],
-    y: &[u32],
+    tree: &Tree<'_>,
+    drawing: &Drawing<'_>,
     held: &mut [u32],
     work: &mut [u32],
     lot: u32,
     on: bool,
 ) -> Result<Frame, Refusal>
     requires { FramesFit limits }
-    ensures { Does limits (to_read parent) (to_read rank)
-        (sheet (to_read times) (to_read x) (to_read y) (to_write held)) (to_write work)
+    ensures { Does limits (parents tree) (ranks tree) (sheet_read drawing (to_write held)) (to_write work)
         (λ P R s m. hold limits P R rule s m lot on) (framed result) }
 {
-    examine(limits, rule, parent, rank, times, x, y, held, work, lot)?;
+    examine(limits, rule, tree, drawing, held, work, lot)?;
     mark(held, lot as usize, on);
-    Ok(frame_of(x, y))
+    Ok(drawing.frame())
 }
 
 // Holds the edge of `lot`, so that it keeps its length, or frees it, and returns the frame; on a refusal the sheet
 // stays as it was. An edge that is held may be held again, and a free one freed.
 pub fn hold(
     rule: Rule,
-    parent: &[u32],
-    rank: &[u32],
-    times: &[u32],
-    x: &[u32],
-    y: &[u32],
+    tree: &Tree<'_>,
+    drawing: &Drawing<'_>,
     held: &mut [u32],
     work: &mut [u32],
     lot: u32,
     on: bool,
 ) -> Result<Frame, Refusal>
-    ensures { Does large (to_read parent) (to_read rank)
-        (sheet (to_read times) (to_read x) (to_read y) (to_write held)) (to_write work)
+    ensures { Does large (parents tree) (ranks tree) (sheet_read drawing (to_write held)) (to_write work)
         (λ P R s m. hold large P R rule s m lot on) (framed result) }
 {
-    let limits = large_limits();
-    hold_within(limits, rule, parent, rank, times, x, y, held, work, lot, on)
+    hold_within(large_limits(), rule, tree, drawing, held, work, lot, on)
 }

@@ -103,11 +103,6 @@ movable_back : {P X : List ℕ} {v d : ℕ} → length X ≡ length P
     → ((z : ℕ) → z < length P → under P v z ≡ true → d ≤ get_or X z 0) → Movable P X v d false
 movable_back long room = record { long = long; on = λ t. absurd (differ t refl); back = λ t. room }
 
-pub times_fit : {P R : List ℕ} {rule : Rule} {s : Drawing} {W : List ℕ} {v c : ℕ} {longer : Bool}
-    → Stretchable P R rule s W v c longer → (t : ℕ) → t ≡ get_or s.times v 0 → t < 2 ^ 32 → by longer t c < 2 ^ 32
-times_fit {longer = true} x t e h = omega (arith, x.more refl)
-times_fit {longer = false} x t e h = omega arith
-
 pub stretched_is : {P R : List ℕ} {rule : Rule} {s : Drawing} {W : List ℕ} {v c : ℕ} {longer : Bool} {slope : Slope}
     {t k d h : ℕ} {T X Y : List ℕ} → Stretchable P R rule s W v c longer
     → slope ≡ edge P R rule v → d ≡ c * slope.across → h ≡ c * slope.up

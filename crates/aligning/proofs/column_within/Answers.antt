@@ -5,7 +5,7 @@ use Rattle.aligning.proofs.Counting.{ready, refused, answered}
 use Rattle.aligning.proofs.column_within.Goals as goal
 
 pub count_to-requires : goal.count_to-requires
-count_to-requires c = ready _ _ c.in_ok-examine.ensures refl
+count_to-requires c = (ready _ _ c.in_ok-examine.ensures refl).0
 
 pub returns-in_err-examine : goal.returns-in_err-examine
 returns-in_err-examine c =

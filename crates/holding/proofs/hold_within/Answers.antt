@@ -7,8 +7,8 @@ use Rattle.holding.proofs.hold_within.Goals as goal
 pub mark-requires : goal.mark-requires
 mark-requires c = within _ _ c.in_ok-examine.ensures refl
 
-pub frame_of-requires : goal.frame_of-requires
-frame_of-requires c =
+pub frame-requires : goal.frame-requires
+frame-requires c =
     still_framable _ _ c.in_ok-examine.ensures refl
     c.requires
 
@@ -20,4 +20,4 @@ returns-in_err-examine c =
 pub returns : goal.returns
 returns c =
     marked_now _ _ c.in_ok-examine.ensures _ refl c.mark.ensures
-    (c.frame_of.ensures _)
+    c.frame.ensures
