@@ -7,7 +7,6 @@
 --   sheet_read d held    == the sheet of a drawing lent to read and of held, at entry and at exit
 --   sheet_written d held == that of a drawing lent to write
 use Rattle.std.specs.Prelude.{◌≡◌}
-use Rattle.std.proofs.Common.{◌∙◌}
 use Rattle.std.specs.Borrow.{Bor, MutBor}
 use denote.Triple.Both.{Both}
 use Rattle.table.specs.declared.tree.Tree.{Tree}
@@ -24,10 +23,6 @@ written d = lent d.times.now d.x.now d.y.now
 abbrev pub SameLists : DrawingMut → DrawingMut → Type 0
 SameLists d e =
     (e.times.ghost_name ≡ d.times.ghost_name) × (e.x.ghost_name ≡ d.x.ghost_name) × (e.y.ghost_name ≡ d.y.ghost_name)
-
--- over two calls
-pub same_then : (d e f : DrawingMut) → SameLists d e → SameLists e f → SameLists d f
-same_then d e f p q = (q.0 ∙ p.0, q.1 ∙ p.1, q.2 ∙ p.2)
 
 abbrev pub parents : Both (Bor Tree) (Bor Tree) → Lent
 parents t = record { entry = t.entry.now.parent.now; exit = t.exit.now.parent.now }

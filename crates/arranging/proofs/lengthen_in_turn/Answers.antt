@@ -6,7 +6,6 @@ use Rattle.std.proofs.lemmas.Iterator.{empty_from_Zip}
 use Rattle.std.specs.Iterator.Adapters.{enumerate_source}
 use Rattle.drawing.specs.Drawing.{frame}
 use Rattle.drawing.specs.Parts.{framable}
-use Rattle.drawing.specs.Lists.{same_then}
 use Rattle.arranging.specs.Arranging.{at_place}
 use Rattle.arranging.proofs.Turns.{turning_step, turning_refused, turning_end}
 use Rattle.arranging.proofs.lengthen_in_turn.Goals as goal
@@ -17,17 +16,21 @@ frame-requires c = framable c.requires.0 c.loop-i.invariant.0.opened.inspected.s
 pub returns-in-Err : goal.returns-in-Err
 returns-in-Err c =
     let next = c.in-Some.ensures.steps in
+    let before = c.loop-i.invariant.1 in
+    let here = c.in-Err.ensures.lists in
     record {
       turns = turning_refused c.loop-i.invariant.0 next.0.0 next.0.1 (omega (arith, next.1))
           c.in-Err.ensures.lengthened refl;
-      lists = same_then _ _ _ c.loop-i.invariant.1 c.in-Err.ensures.lists;
+      lists = (here.0 ∙ before.0, here.1 ∙ before.1, here.2 ∙ before.2);
     }
 
 pub loop-i-preserved : goal.loop-i-preserved
 loop-i-preserved c =
-    let next = c.in-Some.ensures.steps in (
+    let next = c.in-Some.ensures.steps in
+    let before = c.loop-i.invariant.1 in
+    let here = c.in_default.ensures.lists in (
       turning_step c.loop-i.invariant.0 next.0.0 next.0.1 next.2 c.in_default.ensures.lengthened refl,
-      same_then _ _ _ c.loop-i.invariant.1 c.in_default.ensures.lists,
+      (here.0 ∙ before.0, here.1 ∙ before.1, here.2 ∙ before.2),
     )
 
 pub returns : goal.returns
