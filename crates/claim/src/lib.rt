@@ -4,14 +4,16 @@
 
 ghost use Rattle.std.specs.Prelude.{◌≡◌, length};
 ghost use Rattle.table.specs.Table.{large};
-ghost use Rattle.drawing.specs.Drawing.{sheet, to_write};
+ghost use Rattle.drawing.specs.Drawing.{sheet_of};
+ghost use Rattle.drawing.specs.Lists.{written, SameLists};
 ghost use Rattle.drawing.specs.Framed.{framed};
 ghost use Rattle.claim.specs.Claim.{make, run};
 ghost use Rattle.claim.specs.Replay.{call_of, calls_of, Replayed};
 
-use drawing::Frame;
+use drawing::{DrawingMut, Frame};
 use faults::Refusal;
 use slopes::Rule;
+use table::Tree;
 
 // One call on a sheet.
 #[derive(Clone, Copy)]
@@ -25,29 +27,26 @@ pub enum Step {
 #[tactic(auto, unfolding(crate::specs::Claim::make, crate::specs::Replay::call_of))]
 fn make_call(
     rule: Rule,
-    parent: &[u32],
-    rank: &[u32],
-    times: &mut [u32],
-    x: &mut [u32],
-    y: &mut [u32],
+    tree: &Tree<'_>,
+    drawing: &mut DrawingMut<'_>,
     held: &mut [u32],
     work: &mut [u32],
     step: Step,
 )
-    ensures { (sheet (to_write times) (to_write x) (to_write y) (to_write held)).exit
-        ≡ (make large parent.now rank.now rule
-        (sheet (to_write times) (to_write x) (to_write y) (to_write held)).entry
+    ensures made { sheet_of (written drawing.new) held.new
+        ≡ (make large tree.now.parent.now tree.now.rank.now rule (sheet_of (written drawing.old) held.old)
         (call_of step (length work.old))).left }
+    ensures lists { SameLists drawing.old drawing.new }
 {
     match step {
         Step::Lengthen { lot, count } => {
-            let _ = stretching::lengthen(rule, parent, rank, times, x, y, held, work, lot, count);
+            let _ = stretching::lengthen(rule, tree, drawing, held, work, lot, count);
         }
         Step::Shorten { lot, count } => {
-            let _ = stretching::shorten(rule, parent, rank, times, x, y, held, work, lot, count);
+            let _ = stretching::shorten(rule, tree, drawing, held, work, lot, count);
         }
         Step::Hold { lot, on } => {
-            let _ = holding::hold(rule, parent, rank, times, x, y, held, work, lot, on);
+            let _ = holding::hold(rule, tree, &drawing.read(), held, work, lot, on);
         }
     }
 }
@@ -55,42 +54,37 @@ fn make_call(
 // Makes the calls in order.
 fn make_calls(
     rule: Rule,
-    parent: &[u32],
-    rank: &[u32],
-    times: &mut [u32],
-    x: &mut [u32],
-    y: &mut [u32],
+    tree: &Tree<'_>,
+    drawing: &mut DrawingMut<'_>,
     held: &mut [u32],
     work: &mut [u32],
     steps: &[Step],
 )
-    ensures { (sheet (to_write times) (to_write x) (to_write y) (to_write held)).exit
-        ≡ run large parent.now rank.now rule (sheet (to_write times) (to_write x) (to_write y) (to_write held)).entry
+    ensures made { sheet_of (written drawing.new) held.new
+        ≡ run large tree.now.parent.now tree.now.rank.now rule (sheet_of (written drawing.old) held.old)
         (calls_of steps.now (length work.old)) }
+    ensures lists { SameLists drawing.old drawing.new }
 {
     for step in steps {
-        make_call(rule, parent, rank, times, x, y, held, work, *step);
+        make_call(rule, tree, drawing, held, work, *step);
     }
 }
 
 // Lays the tree out and makes the calls; the reply is layout's. Where layout refuses, no call is made.
 pub fn replay(
     rule: Rule,
-    parent: &[u32],
-    rank: &[u32],
-    times: &mut [u32],
-    x: &mut [u32],
-    y: &mut [u32],
+    tree: &Tree<'_>,
+    drawing: &mut DrawingMut<'_>,
     held: &mut [u32],
     work: &mut [u32],
     steps: &[Step],
 ) -> Result<Frame, Refusal>
-    ensures { Replayed large parent.now rank.now rule
-        (sheet (to_write times) (to_write x) (to_write y) (to_write held)).entry
-        (length work.old) steps.now
-        (sheet (to_write times) (to_write x) (to_write y) (to_write held)).exit (framed result) }
+    ensures replayed { Replayed large tree.now.parent.now tree.now.rank.now rule
+        (sheet_of (written drawing.old) held.old) (length work.old) steps.now
+        (sheet_of (written drawing.new) held.new) (framed result) }
+    ensures lists { SameLists drawing.old drawing.new }
 {
-    let frame = drawing::layout(rule, parent, rank, times, x, y, held, work)?;
-    make_calls(rule, parent, rank, times, x, y, held, work, steps);
+    let frame = drawing::layout(rule, tree, drawing, held, work)?;
+    make_calls(rule, tree, drawing, held, work, steps);
     Ok(frame)
 }

@@ -14,7 +14,7 @@ use Rattle.table.specs.Table.{large, table_fault, Called}
 use Rattle.treefile.specs.Saved.{Saved}
 use Rattle.treefile.specs.TreeFile.{Written, saved, write_tree, Wrote}
 use Rattle.slopes.specs.declared.Rule.{Rule}
-use Rattle.drawing.specs.Drawing.{Sheet}
+use Rattle.drawing.specs.Drawing.{Sheet, lent, sheet_of}
 use Rattle.arranging.specs.Arranging.{lists_fault, lengthen_each}
 use Rattle.arranging.specs.Arranged.{Arranged}
 use Rattle.arranging.specs.Arranged.{Frame, Refused}
@@ -49,3 +49,16 @@ pub arranged_near : (P R : List ℕ) (rule : Rule) (s : Sheet) (W lots counts : 
 arranged_near P R rule s W lots counts {r = r} call =
     near r (λ k z p e. each_place large P R rule s (length W) lots counts
     (ap (λ (o : Outcome Arranged Sheet). o.answer) (sym call.says) ∙ e))
+
+------------------------------------------------------------------------
+-- The lists of a drawing are left as the drawing that was lent them holds them
+
+pub left_by : (T X Y : List ℕ) {A : Type 0} {T' X' Y' H W V : List ℕ} {f : Option Refusal} {a : A} {o : Outcome A Sheet}
+    → T' ≡ T → X' ≡ X → Y' ≡ Y
+    → Called f W V (record { answer = a; left = sheet_of (lent T X Y) H } ≡ o)
+    → Called f W V (record { answer = a; left = sheet_of (lent T' X' Y') H } ≡ o)
+left_by T X Y {H = H} {a = a} t x y call = record {
+  says = (λ i. record { answer = a; left = sheet_of (lent (t i) (x i) (y i)) H }) ∙ call.says;
+  spared = call.spared;
+  long = call.long;
+}

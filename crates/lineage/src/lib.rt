@@ -20,11 +20,13 @@ ghost use Rattle.replies.specs.Replies.{counted_reply, framed_reply, heading_rep
 ghost use Rattle.replies.specs.Replies.{arranged_reply, aligned_reply, screen, view_reply};
 ghost use Rattle.lineage.specs.Exports.{rule_of, Unchanged, Replied, Exported};
 
+use drawing::{Drawing, DrawingMut};
 use replies::{
     put_aligned, put_arranged, put_counted, put_framed, put_heading, put_saved, put_verdict,
     put_view,
 };
 use slopes::Rule;
+use table::Tree;
 
 // The rule that a bool stands for.
 fn rule_of(balanced: bool) -> Rule
@@ -59,7 +61,7 @@ pub extern "C" fn lineage_post_numbers(
     if reply.len() != 3 {
         return false;
     }
-    let answer = numbers::post_numbers(parent, rank, first, last, work);
+    let answer = numbers::post_numbers(&Tree { parent, rank }, first, last, work);
     put_counted(reply, answer);
     true
 }
@@ -109,7 +111,9 @@ pub extern "C" fn lineage_layout(
     if reply.len() != 3 {
         return false;
     }
-    let answer = drawing::layout(rule_of(balanced), parent, rank, times, x, y, held, work);
+    let tree = Tree { parent, rank };
+    let mut drawing = DrawingMut { times, x, y };
+    let answer = drawing::layout(rule_of(balanced), &tree, &mut drawing, held, work);
     put_framed(reply, answer);
     true
 }
@@ -139,18 +143,10 @@ pub extern "C" fn lineage_lengthen(
     if reply.len() != 3 {
         return false;
     }
-    let answer = stretching::lengthen(
-        rule_of(balanced),
-        parent,
-        rank,
-        times,
-        x,
-        y,
-        held,
-        work,
-        lot,
-        count,
-    );
+    let tree = Tree { parent, rank };
+    let mut drawing = DrawingMut { times, x, y };
+    let rule = rule_of(balanced);
+    let answer = stretching::lengthen(rule, &tree, &mut drawing, held, work, lot, count);
     put_framed(reply, answer);
     true
 }
@@ -181,18 +177,10 @@ pub extern "C" fn lineage_lengthen_each(
     if reply.len() != 4 {
         return false;
     }
-    let answer = arranging::lengthen_each(
-        rule_of(balanced),
-        parent,
-        rank,
-        times,
-        x,
-        y,
-        held,
-        work,
-        lots,
-        counts,
-    );
+    let tree = Tree { parent, rank };
+    let mut drawing = DrawingMut { times, x, y };
+    let rule = rule_of(balanced);
+    let answer = arranging::lengthen_each(rule, &tree, &mut drawing, held, work, lots, counts);
     put_arranged(reply, answer);
     true
 }
@@ -222,18 +210,10 @@ pub extern "C" fn lineage_shorten(
     if reply.len() != 3 {
         return false;
     }
-    let answer = stretching::shorten(
-        rule_of(balanced),
-        parent,
-        rank,
-        times,
-        x,
-        y,
-        held,
-        work,
-        lot,
-        count,
-    );
+    let tree = Tree { parent, rank };
+    let mut drawing = DrawingMut { times, x, y };
+    let rule = rule_of(balanced);
+    let answer = stretching::shorten(rule, &tree, &mut drawing, held, work, lot, count);
     put_framed(reply, answer);
     true
 }
@@ -263,18 +243,10 @@ pub extern "C" fn lineage_hold(
     if reply.len() != 3 {
         return false;
     }
-    let answer = holding::hold(
-        rule_of(balanced),
-        parent,
-        rank,
-        times,
-        x,
-        y,
-        held,
-        work,
-        lot,
-        hold,
-    );
+    let tree = Tree { parent, rank };
+    let drawing = Drawing { times, x, y };
+    let rule = rule_of(balanced);
+    let answer = holding::hold(rule, &tree, &drawing, held, work, lot, hold);
     put_framed(reply, answer);
     true
 }
@@ -305,18 +277,10 @@ pub extern "C" fn lineage_column(
     if reply.len() != 3 {
         return false;
     }
-    let answer = aligning::column(
-        rule_of(balanced),
-        parent,
-        rank,
-        times,
-        x,
-        y,
-        held,
-        work,
-        lot,
-        column,
-    );
+    let tree = Tree { parent, rank };
+    let drawing = Drawing { times, x, y };
+    let rule = rule_of(balanced);
+    let answer = aligning::column(rule, &tree, &drawing, held, work, lot, column);
     put_aligned(reply, answer);
     true
 }
@@ -344,7 +308,9 @@ pub extern "C" fn lineage_small_layout(
     if reply.len() != 3 {
         return false;
     }
-    let answer = small::layout_small(rule_of(balanced), parent, rank, times, x, y, held, work);
+    let tree = Tree { parent, rank };
+    let mut drawing = DrawingMut { times, x, y };
+    let answer = small::layout_small(rule_of(balanced), &tree, &mut drawing, held, work);
     put_framed(reply, answer);
     true
 }
@@ -374,18 +340,10 @@ pub extern "C" fn lineage_small_lengthen(
     if reply.len() != 3 {
         return false;
     }
-    let answer = small::lengthen_small(
-        rule_of(balanced),
-        parent,
-        rank,
-        times,
-        x,
-        y,
-        held,
-        work,
-        lot,
-        count,
-    );
+    let tree = Tree { parent, rank };
+    let mut drawing = DrawingMut { times, x, y };
+    let rule = rule_of(balanced);
+    let answer = small::lengthen_small(rule, &tree, &mut drawing, held, work, lot, count);
     put_framed(reply, answer);
     true
 }
@@ -415,18 +373,10 @@ pub extern "C" fn lineage_small_shorten(
     if reply.len() != 3 {
         return false;
     }
-    let answer = small::shorten_small(
-        rule_of(balanced),
-        parent,
-        rank,
-        times,
-        x,
-        y,
-        held,
-        work,
-        lot,
-        count,
-    );
+    let tree = Tree { parent, rank };
+    let mut drawing = DrawingMut { times, x, y };
+    let rule = rule_of(balanced);
+    let answer = small::shorten_small(rule, &tree, &mut drawing, held, work, lot, count);
     put_framed(reply, answer);
     true
 }
@@ -452,7 +402,7 @@ pub extern "C" fn lineage_direction(
     if reply.len() != 3 {
         return false;
     }
-    let answer = direction::direction(rule_of(balanced), parent, rank, work, from, to);
+    let answer = direction::direction(rule_of(balanced), &Tree { parent, rank }, work, from, to);
     put_heading(reply, answer);
     true
 }
@@ -478,7 +428,7 @@ pub extern "C" fn lineage_check(
     if reply.len() != 3 {
         return false;
     }
-    let answer = monotone::check(parent, rank, x, y, work);
+    let answer = monotone::check(&Tree { parent, rank }, x, y, work);
     put_verdict(reply, answer);
     true
 }
@@ -564,7 +514,7 @@ pub extern "C" fn lineage_write_tree(
     if reply.len() != 3 {
         return false;
     }
-    let answer = treefile::write_tree(parent, rank, bytes, work);
+    let answer = treefile::write_tree(&Tree { parent, rank }, bytes, work);
     put_saved(reply, answer);
     true
 }

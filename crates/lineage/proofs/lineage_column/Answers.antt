@@ -14,7 +14,7 @@ returns c = (
   c.if-reply-ne3.false,
   record {
     answer = aligned c.column-answer.result;
-    kept = rw c.rule_of.ensures at c.column-answer.ensures;
+    kept = rw c.rule_of-rule.ensures at c.column-answer.ensures;
     written = c.put_aligned.ensures;
   },
 )

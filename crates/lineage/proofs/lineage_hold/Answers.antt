@@ -14,7 +14,7 @@ returns c = (
   c.if-reply-ne3.false,
   record {
     answer = framed c.hold-answer.result;
-    kept = rw c.rule_of.ensures at c.hold-answer.ensures;
+    kept = rw c.rule_of-rule.ensures at c.hold-answer.ensures;
     written = c.put_framed.ensures;
   },
 )

@@ -1,7 +1,9 @@
 -- The call's own contract, with its answer written.
 use mathlib.Core.Path.{refl}
 use Rattle.drawing.specs.Framed.{framed}
+use Rattle.std.proofs.Common.{rules}
 use Rattle.lineage.specs.Exports.{Exported}
+use Rattle.lineage.proofs.Exporting.{left_by}
 use Rattle.lineage.proofs.lineage_small_layout.Goals as goal
 
 pub returns-then-reply-ne3 : goal.returns-then-reply-ne3
@@ -14,7 +16,9 @@ returns c = (
   c.if-reply-ne3.false,
   record {
     answer = framed c.layout_small-answer.result;
-    kept = rw c.rule_of.ensures at c.layout_small-answer.ensures;
+    kept = left_by c.layout_small-answer.new.drawing.times.now c.layout_small-answer.new.drawing.x.now
+        c.layout_small-answer.new.drawing.y.now (search rules) (search rules) (search rules)
+        (rw c.rule_of.ensures at c.layout_small-answer.ensures.does);
     written = c.put_framed.ensures;
   },
 )
