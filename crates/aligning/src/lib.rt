@@ -2,7 +2,7 @@
 #![tactic(auto)]
 
 ghost use Rattle.std.specs.Prelude.{length};
-ghost use Rattle.table.specs.Table.{large};
+ghost use Rattle.table.specs.Table.{limits_of};
 ghost use Rattle.drawing.specs.Drawing.{sheet_of};
 ghost use Rattle.drawing.specs.Lists.{read};
 ghost use Rattle.stretching.specs.Calls.{Examined};
@@ -13,7 +13,7 @@ use drawing::Drawing;
 use faults::Refusal;
 use slopes::{Rule, edge_slope};
 use stretching::{examine, too_far};
-use table::{Limits, Numbered, Tree, get, large_limits};
+use table::{Cabinet, Limits, Numbered, Tree, get};
 
 // The count for a lot that 1 to 10 accept, on a numbered table.
 fn count_to(
@@ -55,7 +55,7 @@ fn count_to(
 }
 
 // Column at any limits.
-pub fn column_within(
+fn column_within(
     limits: Limits,
     rule: Rule,
     tree: &Tree<'_>,
@@ -82,6 +82,7 @@ pub fn column_within(
 // The count by which lengthen brings `lot` to a column, or none where no count does; nothing is moved. The work list
 // takes the table's post numbers; refusals 1, 2 and 3 leave it alone.
 pub fn column(
+    cabinet: Cabinet,
     rule: Rule,
     tree: &Tree<'_>,
     drawing: &Drawing<'_>,
@@ -90,11 +91,11 @@ pub fn column(
     lot: u32,
     column: u32,
 ) -> Result<Option<u32>, Refusal>
-    ensures { Aligns large tree.now.parent.now tree.now.rank.now rule
+    ensures { Aligns (limits_of cabinet) tree.now.parent.now tree.now.rank.now rule
         (sheet_of (read drawing.now) held.now)
         work.old work.new lot column (aligned result) }
 {
     column_within(
-        large_limits(), rule, tree, drawing, held, work, lot, column,
+        cabinet.limits(), rule, tree, drawing, held, work, lot, column,
     )
 }

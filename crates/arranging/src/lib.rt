@@ -2,7 +2,7 @@
 #![tactic(auto)]
 
 ghost use Rattle.std.specs.Prelude.{◌≡◌, length};
-ghost use Rattle.table.specs.Table.{large};
+ghost use Rattle.table.specs.Table.{limits_of};
 ghost use Rattle.table.specs.Validity.{valid};
 ghost use Rattle.drawing.specs.Drawing.{sheet_of, to_read, to_write};
 ghost use Rattle.drawing.specs.Lists.{read, written, SameLists, parents, ranks, sheet_written};
@@ -17,7 +17,7 @@ use faults::{Fault, Refusal};
 use inspecting::inspect;
 use slopes::Rule;
 use stretching::lengthen_edge;
-use table::{Limits, Numbered, Tree, large_limits};
+use table::{Cabinet, Limits, Numbered, Tree};
 
 // A refusal, and the place in the lists of the lengthen that it stops, from 1: 0 where it stops them all.
 #[derive(Clone, Copy)]
@@ -87,7 +87,7 @@ fn lengthen_in_turn(
 }
 
 // Lengthen each at any limits whose frames are numbers of 32 bits.
-pub fn lengthen_each_within(
+fn lengthen_each_within(
     limits: Limits,
     rule: Rule,
     tree: &Tree<'_>,
@@ -117,6 +117,7 @@ pub fn lengthen_each_within(
 // is refused ends the call: it changes nothing, those before it stand, and its place is counted from 1. Refusals up to
 // 8, and 19, come before all and have place 0.
 pub fn lengthen_each(
+    cabinet: Cabinet,
     rule: Rule,
     tree: &Tree<'_>,
     drawing: &mut DrawingMut<'_>,
@@ -125,11 +126,11 @@ pub fn lengthen_each(
     lots: &[u32],
     counts: &[u32],
 ) -> Result<Frame, Stopped>
-    ensures arranges { Arranges large (parents tree) (ranks tree) rule (sheet_written drawing (to_read held))
+    ensures arranges { Arranges (limits_of cabinet) (parents tree) (ranks tree) rule (sheet_written drawing (to_read held))
         (to_write work) (to_read lots) (to_read counts) (arranged result) }
     ensures lists { SameLists drawing.old drawing.new }
 {
     lengthen_each_within(
-        large_limits(), rule, tree, drawing, held, work, lots, counts,
+        cabinet.limits(), rule, tree, drawing, held, work, lots, counts,
     )
 }

@@ -13,7 +13,7 @@ ghost use Rattle.claim.specs.Replay.{call_of, calls_of, Replayed};
 use drawing::{DrawingMut, Frame};
 use faults::Refusal;
 use slopes::Rule;
-use table::Tree;
+use table::{Cabinet, Tree};
 
 // One call on a sheet.
 #[derive(Clone, Copy)]
@@ -40,13 +40,40 @@ fn make_call(
 {
     match step {
         Step::Lengthen { lot, count } => {
-            let _ = stretching::lengthen(rule, tree, drawing, held, work, lot, count);
+            let _ = stretching::lengthen(
+                Cabinet::Large,
+                rule,
+                tree,
+                drawing,
+                held,
+                work,
+                lot,
+                count,
+            );
         }
         Step::Shorten { lot, count } => {
-            let _ = stretching::shorten(rule, tree, drawing, held, work, lot, count);
+            let _ = stretching::shorten(
+                Cabinet::Large,
+                rule,
+                tree,
+                drawing,
+                held,
+                work,
+                lot,
+                count,
+            );
         }
         Step::Hold { lot, on } => {
-            let _ = holding::hold(rule, tree, &drawing.read(), held, work, lot, on);
+            let _ = holding::hold(
+                Cabinet::Large,
+                rule,
+                tree,
+                &drawing.read(),
+                held,
+                work,
+                lot,
+                on,
+            );
         }
     }
 }
@@ -84,7 +111,7 @@ pub fn replay(
         (sheet_of (written drawing.new) held.new) (framed result) }
     ensures lists { SameLists drawing.old drawing.new }
 {
-    let frame = drawing::layout(rule, tree, drawing, held, work)?;
+    let frame = drawing::layout(Cabinet::Large, rule, tree, drawing, held, work)?;
     make_calls(rule, tree, drawing, held, work, steps);
     Ok(frame)
 }

@@ -13,9 +13,11 @@ use Rattle.std.proofs.Math.Nat.{pow-le-pow_right}
 use Rattle.std.proofs.Math.ListN.{length-replicate, get_or-replicate}
 use Rattle.laws.specs.SearchLaws.{length-tabulate, get_d_tabulate}
 use Rattle.laws.specs.Sums.{sum}
+use Rattle.table.specs.declared.Cabinet.{Cabinet}
+use Rattle.table.specs.declared.Cabinet.TheVariants.{Large, Small}
 use Rattle.table.specs.declared.Limits.{Limits}
 use Rattle.table.proofs.NumberingLaws.{numbering}
-use Rattle.table.specs.Table.{large, small}
+use Rattle.table.specs.Table.{large, small, limits_of}
 use Rattle.table.specs.TableLaws.{Tree}
 use Rattle.slopes.specs.declared.Rule.{Rule}
 use Rattle.slopes.specs.declared.Rule.TheVariants.{Steep, Balanced}
@@ -91,6 +93,10 @@ large_roomy = roomy large 16 (omega arith) (omega arith) (omega arith) (omega ar
 
 pub small_roomy : Roomy small
 small_roomy = roomy small 10 (omega arith) (omega arith) (omega arith) (omega arith)
+
+pub cabinet_roomy : (c : Cabinet) → Roomy (limits_of c)
+cabinet_roomy Large = large_roomy
+cabinet_roomy Small = small_roomy
 
 ------------------------------------------------------------------------
 -- The fresh drawing

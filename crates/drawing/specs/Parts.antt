@@ -2,6 +2,7 @@
 --
 --   Framable X Y           == the frame of the places X and Y is two numbers of 32 bits
 --   FramesFit L            == so is every frame within the limits L
+--   frames_fit c           == so it is of each cabinet
 --   Sized P R s W          == the lists of s are as long as the table, which is numbered
 --   Blank P R rule s W     == and a fresh drawing has places below 2^32
 --   SizedSheet P R s W     == a Sized drawing, and held as long
@@ -9,11 +10,13 @@
 use Rattle.std.specs.Prelude.{List, ◌≡◌, ℕ, ◌+◌, ◌^◌, ◌<◌, length}
 use Rattle.std.proofs.Math.Path.{subst⁻¹}
 use Rattle.std.proofs.Common.{arith}
+use Rattle.table.specs.declared.Cabinet.{Cabinet}
+use Rattle.table.specs.declared.Cabinet.TheVariants.{Large, Small}
 use Rattle.table.specs.declared.Limits.{Limits}
 use Rattle.table.specs.Validity.{Validity}
 use Rattle.table.specs.Numbering.{NumberedTree}
 use Rattle.table.specs.Parts.{Tested}
-use Rattle.table.specs.Table.{table_fault}
+use Rattle.table.specs.Table.{table_fault, limits_of}
 use Rattle.slopes.specs.declared.Rule.{Rule}
 use Rattle.slopes.specs.Bounds.{across_bound, up_bound}
 use Rattle.drawing.specs.Drawing.{Drawing, Sheet, lengths_fit, largest}
@@ -24,6 +27,10 @@ Framable X Y = (largest X + 1 < 2 ^ 32) × (largest Y + 1 < 2 ^ 32)
 
 abbrev pub FramesFit : Limits → Type 0
 FramesFit L = L.place + 1 < 2 ^ 32
+
+pub frames_fit : (c : Cabinet) → FramesFit (limits_of c)
+frames_fit Large = omega arith
+frames_fit Small = omega arith
 
 pub record Sized (P R : List ℕ) (s : Drawing) (W : List ℕ) : Type 0 where
   pub numbered : NumberedTree P R W

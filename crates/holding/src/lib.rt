@@ -2,7 +2,7 @@
 #![tactic(auto)]
 
 ghost use Rattle.std.specs.Prelude.{◌≡◌, ◌<◌, length, set};
-ghost use Rattle.table.specs.Table.{large};
+ghost use Rattle.table.specs.Table.{limits_of};
 ghost use Rattle.drawing.specs.Drawing.{Does, to_write};
 ghost use Rattle.drawing.specs.Lists.{parents, ranks, sheet_read};
 ghost use Rattle.drawing.specs.Framed.{framed};
@@ -13,7 +13,7 @@ use drawing::{Drawing, Frame};
 use faults::Refusal;
 use slopes::Rule;
 use stretching::examine;
-use table::{Limits, Tree, large_limits, put};
+use table::{Cabinet, Limits, Tree, put};
 
 // Sets or clears the entry of v.
 fn mark(held: &mut [u32], v: usize, on: bool)
@@ -28,7 +28,7 @@ fn mark(held: &mut [u32], v: usize, on: bool)
 }
 
 // Hold at any limits whose frames are numbers of 32 bits.
-pub fn hold_within(
+fn hold_within(
     limits: Limits,
     rule: Rule,
     tree: &Tree<'_>,
@@ -50,6 +50,7 @@ pub fn hold_within(
 // Holds the edge of `lot`, so that it keeps its length, or frees it, and returns the frame; on a refusal the sheet
 // stays as it was. An edge that is held may be held again, and a free one freed.
 pub fn hold(
+    cabinet: Cabinet,
     rule: Rule,
     tree: &Tree<'_>,
     drawing: &Drawing<'_>,
@@ -58,8 +59,8 @@ pub fn hold(
     lot: u32,
     on: bool,
 ) -> Result<Frame, Refusal>
-    ensures { Does large (parents tree) (ranks tree) (sheet_read drawing (to_write held)) (to_write work)
-        (λ P R s m. hold large P R rule s m lot on) (framed result) }
+    ensures { Does (limits_of cabinet) (parents tree) (ranks tree) (sheet_read drawing (to_write held)) (to_write work)
+        (λ P R s m. hold (limits_of cabinet) P R rule s m lot on) (framed result) }
 {
-    hold_within(large_limits(), rule, tree, drawing, held, work, lot, on)
+    hold_within(cabinet.limits(), rule, tree, drawing, held, work, lot, on)
 }

@@ -26,7 +26,7 @@ use replies::{
     put_view,
 };
 use slopes::Rule;
-use table::Tree;
+use table::{Cabinet, Tree};
 
 // The rule that a bool stands for.
 fn rule_of(balanced: bool) -> Rule
@@ -113,7 +113,8 @@ pub extern "C" fn lineage_layout(
     }
     let tree = Tree { parent, rank };
     let mut drawing = DrawingMut { times, x, y };
-    let answer = drawing::layout(rule_of(balanced), &tree, &mut drawing, held, work);
+    let rule = rule_of(balanced);
+    let answer = drawing::layout(Cabinet::Large, rule, &tree, &mut drawing, held, work);
     put_framed(reply, answer);
     true
 }
@@ -146,7 +147,8 @@ pub extern "C" fn lineage_lengthen(
     let tree = Tree { parent, rank };
     let mut drawing = DrawingMut { times, x, y };
     let rule = rule_of(balanced);
-    let answer = stretching::lengthen(rule, &tree, &mut drawing, held, work, lot, count);
+    let cabinet = Cabinet::Large;
+    let answer = stretching::lengthen(cabinet, rule, &tree, &mut drawing, held, work, lot, count);
     put_framed(reply, answer);
     true
 }
@@ -180,7 +182,17 @@ pub extern "C" fn lineage_lengthen_each(
     let tree = Tree { parent, rank };
     let mut drawing = DrawingMut { times, x, y };
     let rule = rule_of(balanced);
-    let answer = arranging::lengthen_each(rule, &tree, &mut drawing, held, work, lots, counts);
+    let cabinet = Cabinet::Large;
+    let answer = arranging::lengthen_each(
+        cabinet,
+        rule,
+        &tree,
+        &mut drawing,
+        held,
+        work,
+        lots,
+        counts,
+    );
     put_arranged(reply, answer);
     true
 }
@@ -213,7 +225,8 @@ pub extern "C" fn lineage_shorten(
     let tree = Tree { parent, rank };
     let mut drawing = DrawingMut { times, x, y };
     let rule = rule_of(balanced);
-    let answer = stretching::shorten(rule, &tree, &mut drawing, held, work, lot, count);
+    let cabinet = Cabinet::Large;
+    let answer = stretching::shorten(cabinet, rule, &tree, &mut drawing, held, work, lot, count);
     put_framed(reply, answer);
     true
 }
@@ -246,7 +259,8 @@ pub extern "C" fn lineage_hold(
     let tree = Tree { parent, rank };
     let drawing = Drawing { times, x, y };
     let rule = rule_of(balanced);
-    let answer = holding::hold(rule, &tree, &drawing, held, work, lot, hold);
+    let cabinet = Cabinet::Large;
+    let answer = holding::hold(cabinet, rule, &tree, &drawing, held, work, lot, hold);
     put_framed(reply, answer);
     true
 }
@@ -280,7 +294,8 @@ pub extern "C" fn lineage_column(
     let tree = Tree { parent, rank };
     let drawing = Drawing { times, x, y };
     let rule = rule_of(balanced);
-    let answer = aligning::column(rule, &tree, &drawing, held, work, lot, column);
+    let cabinet = Cabinet::Large;
+    let answer = aligning::column(cabinet, rule, &tree, &drawing, held, work, lot, column);
     put_aligned(reply, answer);
     true
 }
@@ -310,7 +325,8 @@ pub extern "C" fn lineage_small_layout(
     }
     let tree = Tree { parent, rank };
     let mut drawing = DrawingMut { times, x, y };
-    let answer = small::layout_small(rule_of(balanced), &tree, &mut drawing, held, work);
+    let rule = rule_of(balanced);
+    let answer = drawing::layout(Cabinet::Small, rule, &tree, &mut drawing, held, work);
     put_framed(reply, answer);
     true
 }
@@ -343,7 +359,8 @@ pub extern "C" fn lineage_small_lengthen(
     let tree = Tree { parent, rank };
     let mut drawing = DrawingMut { times, x, y };
     let rule = rule_of(balanced);
-    let answer = small::lengthen_small(rule, &tree, &mut drawing, held, work, lot, count);
+    let small = Cabinet::Small;
+    let answer = stretching::lengthen(small, rule, &tree, &mut drawing, held, work, lot, count);
     put_framed(reply, answer);
     true
 }
@@ -376,7 +393,8 @@ pub extern "C" fn lineage_small_shorten(
     let tree = Tree { parent, rank };
     let mut drawing = DrawingMut { times, x, y };
     let rule = rule_of(balanced);
-    let answer = small::shorten_small(rule, &tree, &mut drawing, held, work, lot, count);
+    let small = Cabinet::Small;
+    let answer = stretching::shorten(small, rule, &tree, &mut drawing, held, work, lot, count);
     put_framed(reply, answer);
     true
 }

@@ -6,7 +6,7 @@ ghost use Rattle.table.specs.Table.{large};
 ghost use Rattle.numbers.specs.PostNumbers.{spans, Spanned};
 
 use faults::Refusal;
-use table::{Tree, both_long, copy_out, large_limits};
+use table::{Cabinet, Tree, both_long, copy_out};
 
 // Fills the lists with the first and the last post number in each node's subtree; refuses a table to which one of 1 to
 // 7 applies, and then leaves both as they were. The work list takes the numbering; refusals 1, 2 and 3 leave it alone.
@@ -22,7 +22,7 @@ pub fn post_numbers(
 {
     let n = tree.parent.len();
     let long = both_long(n, first, last);
-    tree.prepare(large_limits(), long, work)?;
+    tree.prepare(Cabinet::Large.limits(), long, work)?;
     copy_out(work, 2 * n, first);
     copy_out(work, 0, last);
     Ok(n as u32)

@@ -5,7 +5,7 @@
 
 ghost use Rattle.std.specs.Prelude.{true, false, ◌≡◌, ◌+◌, ◌^◌, ◌≤◌, ◌<◌, length};
 ghost use Rattle.table.specs.Acceptance.{validity};
-ghost use Rattle.table.specs.Table.{large};
+ghost use Rattle.table.specs.Table.{limits_of};
 ghost use Rattle.table.specs.Validity.{valid};
 ghost use Rattle.slopes.specs.Slopes.{edge};
 ghost use Rattle.drawing.specs.Drawing.{sheet_of, Does, to_read, to_write};
@@ -22,7 +22,7 @@ use drawing::{Drawing, DrawingMut, Frame};
 use faults::{Fault, Refusal};
 use inspecting::{inspect, product};
 use slopes::{Rule, Slope, edge_slope};
-use table::{Limits, Numbered, Tree, get, large_limits, put};
+use table::{Cabinet, Limits, Numbered, Tree, get, put};
 
 // d more or d less than a.
 fn changed(a: usize, d: usize, longer: bool) -> usize
@@ -202,7 +202,7 @@ pub fn lengthen_edge(
 }
 
 // Lengthen at any limits whose frames are numbers of 32 bits.
-pub fn lengthen_within(
+fn lengthen_within(
     limits: Limits,
     rule: Rule,
     tree: &Tree<'_>,
@@ -228,7 +228,7 @@ pub fn lengthen_within(
 }
 
 // Shorten at any limits whose frames are numbers of 32 bits.
-pub fn shorten_within(
+fn shorten_within(
     limits: Limits,
     rule: Rule,
     tree: &Tree<'_>,
@@ -261,6 +261,7 @@ pub fn shorten_within(
 // Makes the edge of `lot` longer by `count` times its slope, moves the lot's subtree along and returns the frame; on a
 // refusal the sheet stays as it was.
 pub fn lengthen(
+    cabinet: Cabinet,
     rule: Rule,
     tree: &Tree<'_>,
     drawing: &mut DrawingMut<'_>,
@@ -269,16 +270,17 @@ pub fn lengthen(
     lot: u32,
     count: u32,
 ) -> Result<Frame, Refusal>
-    ensures does { Does large (parents tree) (ranks tree) (sheet_written drawing (to_read held)) (to_write work)
-        (λ P R s m. lengthen large P R rule s m lot count) (framed result) }
+    ensures does { Does (limits_of cabinet) (parents tree) (ranks tree) (sheet_written drawing (to_read held))
+        (to_write work) (λ P R s m. lengthen (limits_of cabinet) P R rule s m lot count) (framed result) }
     ensures lists { SameLists drawing.old drawing.new }
 {
-    lengthen_within(large_limits(), rule, tree, drawing, held, work, lot, count)
+    lengthen_within(cabinet.limits(), rule, tree, drawing, held, work, lot, count)
 }
 
 // Makes the edge of `lot` shorter by `count` times its slope, moves the lot's subtree back and returns the frame; on a
 // refusal the sheet stays as it was.
 pub fn shorten(
+    cabinet: Cabinet,
     rule: Rule,
     tree: &Tree<'_>,
     drawing: &mut DrawingMut<'_>,
@@ -287,9 +289,9 @@ pub fn shorten(
     lot: u32,
     count: u32,
 ) -> Result<Frame, Refusal>
-    ensures does { Does large (parents tree) (ranks tree) (sheet_written drawing (to_read held)) (to_write work)
-        (λ P R s m. shorten large P R rule s m lot count) (framed result) }
+    ensures does { Does (limits_of cabinet) (parents tree) (ranks tree) (sheet_written drawing (to_read held))
+        (to_write work) (λ P R s m. shorten (limits_of cabinet) P R rule s m lot count) (framed result) }
     ensures lists { SameLists drawing.old drawing.new }
 {
-    shorten_within(large_limits(), rule, tree, drawing, held, work, lot, count)
+    shorten_within(cabinet.limits(), rule, tree, drawing, held, work, lot, count)
 }

@@ -18,6 +18,7 @@
 --   has_number P R v j        == a node in v's subtree has the post number j
 --   first_number P R v        == the first post number in v's subtree: the least
 --   large, small             == the limits of a call on a table, and of the small cabinet's (document 02, request 106)
+--   limits_of c              == those of the cabinet c
 --   checked, printed         == those of the check, and of the program `sheet`
 --   shape_fault L ..          == refusals 1 to 3 at the limits L
 --   tree_fault P R            == refusals 4 to 7
@@ -30,6 +31,8 @@ use Rattle.faults.specs.declared.Fault.TheVariants.{TooManyLots, WouldPassMaxPla
 use Rattle.faults.specs.declared.Fault.TheVariants.{TooManyForSmall, WouldPassSmallPlace}
 use Rattle.faults.specs.Numbers.{number}
 use Rattle.laws.specs.Search.{count, least, Refusal, refuse, refuse_least, ◌or_else◌}
+use Rattle.table.specs.declared.Cabinet.{Cabinet}
+use Rattle.table.specs.declared.Cabinet.TheVariants.{Large, Small}
 use Rattle.table.specs.declared.Limits.{Limits}
 
 ------------------------------------------------------------------------
@@ -110,6 +113,10 @@ large = record { nodes = 65536; many = TooManyLots; place = farthest; far = Woul
 
 abbrev pub small : Limits
 small = record { nodes = 1024; many = TooManyForSmall; place = 1048575; far = WouldPassSmallPlace }
+
+abbrev pub limits_of : Cabinet → Limits
+limits_of Large = large
+limits_of Small = small
 
 abbrev pub checked : Limits
 checked = record { nodes = 4096; many = TooManyToCheck; place = farthest; far = PassesMaxPlace }

@@ -13,7 +13,7 @@ ghost use Rattle.laws.specs.Regions.{Only};
 ghost use Rattle.laws.specs.Search.{least, refuse_least};
 ghost use Rattle.table.specs.Acceptance.{validity};
 ghost use Rattle.table.specs.Validity.{valid};
-ghost use Rattle.table.specs.Table.{climb, stray_parent, adrift, all_long, large, small, checked, printed};
+ghost use Rattle.table.specs.Table.{climb, stray_parent, adrift, all_long, limits_of, checked, printed};
 ghost use Rattle.table.specs.Parts.{Scratch, Zeroed, Tallied, Started, marked, Marking, Reaching, Copied};
 
 use faults::{Fault, Refusal};
@@ -31,27 +31,32 @@ pub struct Limits {
 
 const FARTHEST: u32 = 2147483647;
 
-// The limits of every call but the check and those of the small cabinet.
-pub fn large_limits() -> Limits
-    ensures { result ≡ large }
-{
-    Limits {
-        nodes: 65536,
-        many: Fault::TooManyLots,
-        place: FARTHEST,
-        far: Fault::WouldPassMaxPlace,
-    }
+// A cabinet on the quay: the large one, or the small one, which draws fewer lots on smaller sheets.
+#[derive(Clone, Copy)]
+pub enum Cabinet {
+    Large,
+    Small,
 }
 
-// The limits of the small cabinet's calls.
-pub fn small_limits() -> Limits
-    ensures { result ≡ small }
-{
-    Limits {
-        nodes: 1024,
-        many: Fault::TooManyForSmall,
-        place: 1048575,
-        far: Fault::WouldPassSmallPlace,
+impl Cabinet {
+    // The limits of its calls; those of the large one are also those of every call that names no cabinet, but the check.
+    pub fn limits(self) -> Limits
+        ensures { result ≡ limits_of self }
+    {
+        match self {
+            Cabinet::Large => Limits {
+                nodes: 65536,
+                many: Fault::TooManyLots,
+                place: FARTHEST,
+                far: Fault::WouldPassMaxPlace,
+            },
+            Cabinet::Small => Limits {
+                nodes: 1024,
+                many: Fault::TooManyForSmall,
+                place: 1048575,
+                far: Fault::WouldPassSmallPlace,
+            },
+        }
     }
 }
 

@@ -9,7 +9,7 @@ ghost use Rattle.drawing.specs.Framed.{framed};
 
 use drawing::Frame;
 use faults::{Fault, Refusal};
-use table::{both_long, clear, large_limits, put};
+use table::{Cabinet, both_long, clear, put};
 
 // Hangs each node from 1 up on the one before it, and the root on itself.
 fn hang_each(parent: &mut [u32])
@@ -36,7 +36,7 @@ fn rank_each(rank: &mut [u32])
 pub fn tallest(n: u32, parent: &mut [u32], rank: &mut [u32]) -> Result<Frame, Refusal>
     ensures { Fills large n (lists (to_write parent) (to_write rank)) (framed result) }
 {
-    let limits = large_limits();
+    let limits = Cabinet::Large.limits();
     let most = limits.nodes;
     let long = both_long(n as usize, parent, rank);
     if n == 0 {

@@ -11,7 +11,7 @@ ghost use Rattle.treefile.specs.Saved.{saved};
 ghost use Rattle.treefile.specs.TreeFile.{word_at, words, stated_or_zero, Read, Wrote};
 
 use faults::{Fault, Refusal};
-use table::{Limits, Tree};
+use table::{Cabinet, Limits, Tree};
 
 // The number in the 4 bytes from i on, least byte first.
 fn word(bytes: &[u8], i: usize) -> usize
@@ -166,7 +166,7 @@ pub fn read_tree(
     ensures { Read large bytes.now parent.old rank.old work.old
         parent.new rank.new work.new (counted result) }
 {
-    let limits = table::large_limits();
+    let limits = Cabinet::Large.limits();
     read_tree_within(limits, bytes, parent, rank, work)
 }
 
@@ -175,6 +175,6 @@ pub fn write_tree(tree: &Tree<'_>, bytes: &mut [u8], work: &mut [u32]) -> Result
     ensures { Wrote large tree.now.parent.now tree.now.rank.now bytes.old work.old
         bytes.new work.new (saved result) }
 {
-    let limits = table::large_limits();
+    let limits = Cabinet::Large.limits();
     write_tree_within(limits, tree, bytes, work)
 }

@@ -1,5 +1,5 @@
--- At the large limits.
+-- At the cabinet's limits.
 use Rattle.aligning.proofs.column.Goals as goal
 
 pub returns : goal.returns
-returns c = rw c.large_limits.ensures at c.column_within.ensures
+returns c = rw c.limits.ensures at c.column_within.ensures

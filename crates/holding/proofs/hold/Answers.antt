@@ -1,9 +1,9 @@
--- At the large limits.
-use native.Mathlib.Omega.{arith}
+-- At the cabinet's limits.
+use Rattle.drawing.specs.Parts.{frames_fit}
 use Rattle.holding.proofs.hold.Goals as goal
 
 pub returns : goal.returns
-returns c = rw c.large_limits.ensures at c.hold_within.ensures
+returns c = rw c.limits.ensures at c.hold_within.ensures
 
 pub hold_within-requires : goal.hold_within-requires
-hold_within-requires c = rw c.large_limits.ensures (omega arith)
+hold_within-requires c = rw c.limits.ensures (frames_fit c.args.cabinet)

@@ -18,7 +18,7 @@ returns c = (
     answer = framed c.layout-answer.result;
     kept = left_by c.layout-answer.new.drawing.times.now c.layout-answer.new.drawing.x.now
         c.layout-answer.new.drawing.y.now (search rules) (search rules) (search rules)
-        (rw c.rule_of.ensures at c.layout-answer.ensures.does);
+        (rw c.rule_of-rule.ensures at c.layout-answer.ensures.does);
     written = c.put_framed.ensures;
   },
 )

@@ -15,10 +15,10 @@ unfolding Exported
 returns c = (
   c.if-reply-ne3.false,
   record {
-    answer = framed c.layout_small-answer.result;
-    kept = left_by c.layout_small-answer.new.drawing.times.now c.layout_small-answer.new.drawing.x.now
-        c.layout_small-answer.new.drawing.y.now (search rules) (search rules) (search rules)
-        (rw c.rule_of.ensures at c.layout_small-answer.ensures.does);
+    answer = framed c.layout-answer.result;
+    kept = left_by c.layout-answer.new.drawing.times.now c.layout-answer.new.drawing.x.now
+        c.layout-answer.new.drawing.y.now (search rules) (search rules) (search rules)
+        (rw c.rule_of-rule.ensures at c.layout-answer.ensures.does);
     written = c.put_framed.ensures;
   },
 )

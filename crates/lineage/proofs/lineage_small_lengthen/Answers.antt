@@ -15,10 +15,10 @@ unfolding Exported
 returns c = (
   c.if-reply-ne3.false,
   record {
-    answer = framed c.lengthen_small-answer.result;
-    kept = left_by c.lengthen_small-answer.new.drawing.times.now c.lengthen_small-answer.new.drawing.x.now
-        c.lengthen_small-answer.new.drawing.y.now (search rules) (search rules) (search rules)
-        (rw c.rule_of-rule.ensures at c.lengthen_small-answer.ensures.does);
+    answer = framed c.lengthen-answer.result;
+    kept = left_by c.lengthen-answer.new.drawing.times.now c.lengthen-answer.new.drawing.x.now
+        c.lengthen-answer.new.drawing.y.now (search rules) (search rules) (search rules)
+        (rw c.rule_of-rule.ensures at c.lengthen-answer.ensures.does);
     written = c.put_framed.ensures;
   },
 )

@@ -15,10 +15,10 @@ unfolding Exported
 returns c = (
   c.if-reply-ne3.false,
   record {
-    answer = framed c.shorten_small-answer.result;
-    kept = left_by c.shorten_small-answer.new.drawing.times.now c.shorten_small-answer.new.drawing.x.now
-        c.shorten_small-answer.new.drawing.y.now (search rules) (search rules) (search rules)
-        (rw c.rule_of-rule.ensures at c.shorten_small-answer.ensures.does);
+    answer = framed c.shorten-answer.result;
+    kept = left_by c.shorten-answer.new.drawing.times.now c.shorten-answer.new.drawing.x.now
+        c.shorten-answer.new.drawing.y.now (search rules) (search rules) (search rules)
+        (rw c.rule_of-rule.ensures at c.shorten-answer.ensures.does);
     written = c.put_framed.ensures;
   },
 )
