@@ -38,42 +38,16 @@ fn make_call(
         (call_of step (length work.old))).left }
     ensures lists { SameLists drawing.old drawing.new }
 {
+    let large = Cabinet::Large;
     match step {
         Step::Lengthen { lot, count } => {
-            let _ = stretching::lengthen(
-                Cabinet::Large,
-                rule,
-                tree,
-                drawing,
-                held,
-                work,
-                lot,
-                count,
-            );
+            let _ = stretching::lengthen(large, rule, tree, drawing, held, work, lot, count);
         }
         Step::Shorten { lot, count } => {
-            let _ = stretching::shorten(
-                Cabinet::Large,
-                rule,
-                tree,
-                drawing,
-                held,
-                work,
-                lot,
-                count,
-            );
+            let _ = stretching::shorten(large, rule, tree, drawing, held, work, lot, count);
         }
         Step::Hold { lot, on } => {
-            let _ = holding::hold(
-                Cabinet::Large,
-                rule,
-                tree,
-                &drawing.read(),
-                held,
-                work,
-                lot,
-                on,
-            );
+            let _ = holding::hold(large, rule, tree, &drawing.read(), held, work, lot, on);
         }
     }
 }
