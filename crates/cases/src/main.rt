@@ -11,7 +11,7 @@ ghost use Rattle.std.specs.Prelude.{◌≤◌};
 use arranging::Stopped;
 use drawing::Frame;
 use faults::Refusal;
-use monotone::Finding;
+use monotone::Verdict;
 use slopes::Rule;
 use std::alloc::{AllocError, Global};
 use std::fmt;
@@ -154,12 +154,12 @@ impl fmt::Display for Shown<Result<Option<u32>, Refusal>> {
 }
 
 // 2 for Monotone, 1 and the pair that turns, or the refusal.
-impl fmt::Display for Shown<Result<Finding, Refusal>> {
+impl fmt::Display for Shown<Verdict> {
     fn fmt<W: fmt::Write>(&self, f: &mut fmt::Formatter<W>) -> fmt::Result {
         match self.0 {
-            Ok(Finding::Monotone) => write!(f, "2 0 0"),
-            Ok(Finding::Turns(u, v)) => write!(f, "1 {u} {v}"),
-            Err(refusal) => write!(f, "{}", Shown(refusal)),
+            Verdict::Monotone => write!(f, "2 0 0"),
+            Verdict::Turns(u, v) => write!(f, "1 {u} {v}"),
+            Verdict::Refused(number, lot) => write!(f, "0 {number} {lot}"),
         }
     }
 }
@@ -365,7 +365,7 @@ impl Sheet {
         )
     }
 
-    fn check(&mut self) -> Result<Finding, Refusal> {
+    fn check(&mut self) -> Verdict {
         monotone::check(
             &self.tree.parent,
             &self.tree.rank,

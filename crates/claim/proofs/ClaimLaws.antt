@@ -51,8 +51,8 @@ use Rattle.arranging.specs.Arranged.{Refused}
 use Rattle.direction.specs.Heading.{Along}
 use Rattle.direction.specs.Direction.{direction}
 use Rattle.direction.proofs.DirectionLaws.{direction_rises, edges_apart}
-use Rattle.monotone.specs.Verdict.{Verdict}
-use Rattle.monotone.specs.Verdict.{Monotone}
+use Rattle.monotone.specs.declared.Verdict.{Verdict}
+use Rattle.monotone.specs.declared.Verdict.TheVariants.{Monotone}
 use Rattle.monotone.specs.Monotone.{HasDirection, place_beyond, check_fault, Says}
 use Rattle.monotone.specs.MonotoneLaws.{says_one}
 use Rattle.claim.specs.Claim.{Single, Lengthen, Shorten, Hold, Call, One, LengthenEach, adds, takes, frees}

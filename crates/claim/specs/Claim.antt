@@ -30,8 +30,8 @@ use Rattle.holding.specs.Holding.{hold}
 use Rattle.arranging.specs.Arranging.{each_fault, lengthen_each}
 use Rattle.direction.specs.Heading.{Along}
 use Rattle.direction.specs.Direction.{direction}
-use Rattle.monotone.specs.Verdict.{Verdict}
-use Rattle.monotone.specs.Verdict.{Monotone}
+use Rattle.monotone.specs.declared.Verdict.{Verdict}
+use Rattle.monotone.specs.declared.Verdict.TheVariants.{Monotone}
 use Rattle.monotone.specs.Monotone.{Says}
 
 ------------------------------------------------------------------------

@@ -52,14 +52,14 @@ use Rattle.aligning.specs.Aligned.{Aligned}
 use Rattle.aligning.specs.Aligned as aligned
 use Rattle.tallest.specs.Tallest.{Table, table_of, chain_of, steep_frame, lent_fault, tallest}
 use Rattle.tallest.proofs.TallestLaws.{tallest_answers}
-use Rattle.window.specs.View.{View}
-use Rattle.window.specs.View as view
+use Rattle.window.specs.declared.View.{View}
+use Rattle.window.specs.declared.View.TheVariants as view
 use Rattle.window.specs.Window as window
 use Rattle.window.specs.Window.{greatest, within, inside}
 use Rattle.direction.specs.Heading.{Along}
 use Rattle.direction.specs.Direction.{sideways, heading, pair_fault, direction}
-use Rattle.monotone.specs.Verdict.{Verdict}
-use Rattle.monotone.specs.Verdict.{Monotone, Turns}
+use Rattle.monotone.specs.declared.Verdict.{Verdict}
+use Rattle.monotone.specs.declared.Verdict.TheVariants.{Monotone, Turns}
 use Rattle.monotone.proofs.Decision.{widen, span, upward, downward, path_vectors, turns_at, second_node, first_node}
 use Rattle.monotone.proofs.Decision.{decide}
 use Rattle.monotone.proofs.Decision.{decide_says}

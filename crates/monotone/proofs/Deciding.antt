@@ -8,6 +8,7 @@ use Prim.Native.Nat.{ℕ, ◌+◌, ◌*◌, ◌≤◌, ◌<◌}
 use native.Mathlib.Omega.{arith}
 use lib.IntN.{pos, neg_ℤ, ◌-ℤ◌}
 use lib.ListN.{length, get_or}
+use Rattle.std.proofs.Common.{Option, None}
 use Rattle.laws.specs.Differences.{IsDiff, recast, diff_pos, diff_neg, diff_add, diff_eq}
 use Rattle.laws.specs.Regions.{Only}
 use Rattle.laws.specs.Tests.{by_lt, by_test}
@@ -136,6 +137,7 @@ module _ {P R : List ℕ} (T : Tree P R) {u v : ℕ} (l : u < length P) {W X Y :
 ------------------------------------------------------------------------
 -- The loop over u
 
-pub record OverRows (P W : List ℕ) (u : ℕ) (X : List ℕ) : Type 0 where
+pub record OverRows (P W : List ℕ) (u : ℕ) (X : List ℕ) (turning : Option (ℕ × ℕ)) : Type 0 where
   pub only : Only 0 (length P) W X
   pub passed : Passed P W u 0
+  pub still : turning ≡ None

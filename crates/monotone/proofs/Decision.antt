@@ -23,8 +23,8 @@ use Rattle.laws.specs.Signs.{≤≥}
 use Rattle.laws.specs.Tests.{by_test, by_eq, both, both_is, differ, neither}
 use Rattle.table.specs.declared.Limits.{Limits}
 use Rattle.table.specs.Table.{climb, steps_up}
-use Rattle.monotone.specs.Verdict.{Verdict}
-use Rattle.monotone.specs.Verdict.{Monotone, Turns, Refused}
+use Rattle.monotone.specs.declared.Verdict.{Verdict}
+use Rattle.monotone.specs.declared.Verdict.TheVariants.{Monotone, Turns, Refused}
 use Rattle.monotone.specs.Monotone.{HasDirection, FirstTurn, check_fault, Says}
 use Rattle.monotone.specs.PathEdges.{hop}
 use Rattle.monotone.specs.Plane.{Vec, cross, dot, Ahead, AllAhead, HasHalfPlane, Cone, cone_open, cone_first}

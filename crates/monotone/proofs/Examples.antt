@@ -4,8 +4,8 @@ use Rattle.laws.specs.Search.{count, least}
 use Rattle.table.specs.Table.{climb, leads, is_child, children, is_child_at, under, steps_up, stray_parent, bad_rank}
 use Rattle.table.specs.Table.{adrift}
 use Rattle.table.specs.Table.{all_long, shape_fault, tree_fault, table_fault, checked}
-use Rattle.monotone.specs.Verdict.{Verdict}
-use Rattle.monotone.specs.Verdict.{Monotone, Turns, Refused}
+use Rattle.monotone.specs.declared.Verdict.{Verdict}
+use Rattle.monotone.specs.declared.Verdict.TheVariants.{Monotone, Turns, Refused}
 use Rattle.monotone.specs.Monotone.{place_beyond, check_fault, Says}
 use Rattle.monotone.specs.MonotoneLaws.{says_one}
 use Rattle.monotone.proofs.Decision.{widen, span, upward, downward, path_vectors, turns_at, second_node, first_node}

@@ -17,8 +17,8 @@ use Rattle.table.specs.Numbering.{Numbering, Numbered}
 use Rattle.table.proofs.NumberingLaws.{numbering, number_at}
 use Rattle.table.specs.Table.{order, post_number, all_long, shape_fault, table_fault, large, farthest}
 use Rattle.table.specs.Parts.{Validated, ready}
-use Rattle.monotone.specs.Verdict.{Verdict}
-use Rattle.monotone.specs.Verdict as verdict
+use Rattle.monotone.specs.declared.Verdict.{Verdict}
+use Rattle.monotone.specs.declared.Verdict.TheVariants as verdict
 use Rattle.monotone.specs.Monotone.{place_beyond, check_fault, Says, Checked}
 use Rattle.monotone.specs.Parts.{WithEdges, ChildrenFirst, DrawnPart, DrawnEdges, Found, Judged}
 use Rattle.monotone.proofs.Places.{both-within, drawn_small}

@@ -1,4 +1,4 @@
-pub mod Verdict
+pub mod Findings
 pub mod Monotone
 pub mod MonotoneLaws
 pub mod Plane

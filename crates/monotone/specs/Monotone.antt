@@ -14,8 +14,8 @@ use Rattle.laws.specs.Search.{Refusal, refuse_least, ◌or_else◌}
 use Rattle.table.specs.Paths.{PathRises}
 use Rattle.table.specs.Table.{all_long, shape_fault, table_fault, Called}
 use Rattle.table.specs.declared.Limits.{Limits}
-use Rattle.monotone.specs.Verdict.{Verdict}
-use Rattle.monotone.specs.Verdict.{Monotone, Turns, Refused}
+use Rattle.monotone.specs.declared.Verdict.{Verdict}
+use Rattle.monotone.specs.declared.Verdict.TheVariants.{Monotone, Turns, Refused}
 
 ------------------------------------------------------------------------
 -- Directions

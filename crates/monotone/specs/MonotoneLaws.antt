@@ -12,8 +12,8 @@ use Rattle.laws.specs.Signs.{<-to, <→≤, not_both}
 use Rattle.laws.specs.Solver.{Expr, ◌⊕◌, ◌⊖◌, ◌⊗◌, solve}
 use Rattle.laws.specs.Tests.{by_lt}
 use Rattle.table.specs.declared.Limits.{Limits}
-use Rattle.monotone.specs.Verdict.{Verdict}
-use Rattle.monotone.specs.Verdict.{Monotone, Turns, Refused}
+use Rattle.monotone.specs.declared.Verdict.{Verdict}
+use Rattle.monotone.specs.declared.Verdict.TheVariants.{Monotone, Turns, Refused}
 use Rattle.table.specs.Paths.{step, Rises}
 use Rattle.monotone.specs.Monotone.{Says}
 

@@ -24,8 +24,8 @@ use Rattle.laws.specs.Regions.{Only}
 use Rattle.table.specs.Table.{parent, under}
 use Rattle.table.specs.TableLaws.{Tree}
 use Rattle.table.specs.Parts.{Ready}
-use Rattle.monotone.specs.Verdict.{Verdict}
-use Rattle.monotone.specs.Verdict.{Monotone, Turns, Refused}
+use Rattle.monotone.specs.declared.Verdict.{Verdict}
+use Rattle.monotone.specs.declared.Verdict.TheVariants.{Monotone, Turns, Refused}
 use Rattle.monotone.specs.Monotone.{AllDirected, FirstTurn}
 use Rattle.monotone.specs.Plane.{Vec}
 use Rattle.monotone.specs.PathEdges.{OnPath}

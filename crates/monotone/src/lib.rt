@@ -16,7 +16,7 @@ ghost use Rattle.table.specs.Acceptance.{validity};
 ghost use Rattle.table.specs.Validity.{valid};
 ghost use Rattle.table.specs.Table.{large, checked, farthest};
 ghost use Rattle.table.specs.Parts.{Zeroed};
-ghost use Rattle.monotone.specs.Verdict.{found, verdict};
+ghost use Rattle.monotone.specs.Findings.{found, verdict};
 ghost use Rattle.monotone.specs.Monotone.{place_beyond, Checked};
 ghost use Rattle.monotone.specs.Plane.{cross, dot};
 ghost use Rattle.monotone.specs.Parts.{WithEdges, EdgeTurned, Turned, Climbed, Reached, ConeKnown};
@@ -29,11 +29,12 @@ ghost use Rattle.monotone.specs.Cones.{Grown};
 use faults::Refusal;
 use table::{Limits, Tree, both_long, checked_limits, clear, get, put};
 
-// What the check finds: every pair has a direction, or the first pair that has none.
+// What the check answers: every pair has a direction, the first pair that has none, or a refusal's number and lot.
 #[derive(Clone, Copy)]
-pub enum Finding {
+pub enum Verdict {
     Monotone,
     Turns(u32, u32),
+    Refused(u32, u32),
 }
 
 // The cone of a path with no edge, and of one that no half plane holds. Any other is the node of the clockwise side
@@ -253,22 +254,24 @@ fn cones(parent: &[u32], work: &mut [u32], u: usize)
     turn(parent, work, u);
 }
 
-// Whether every pair has a direction, or the first pair that has none: the first whose path has no open half plane.
-fn pairs(parent: &[u32], work: &mut [u32]) -> Finding
+// The first pair that has no direction, if there is one: the first whose path has no open half plane.
+fn pairs(parent: &[u32], work: &mut [u32]) -> Option<(u32, u32)>
     requires { WithEdges parent.now work.old × ChildrenFirst parent.now work.old }
     ensures { (x y : List ℕ) → DrawnEdges parent.now x y work.old
         → Found parent.now x y (found result) }
 {
     let n = parent.len();
-    for u in 0..n {
+    let mut turning = None;
+    'pairs: for u in 0..n {
         cones(parent, work, u);
         for v in u + 1..n {
             if get(work, v) == SHUT {
-                return Finding::Turns(u as u32, v as u32);
+                turning = Some((u as u32, v as u32));
+                break 'pairs;
             }
         }
     }
-    Finding::Monotone
+    turning
 }
 
 // The edges' parts in the coordinate c, from `at` on: c of each node less c of its parent.
@@ -302,8 +305,8 @@ fn test_places(limits: Limits, x: &[u32], y: &[u32]) -> Result<(), Refusal>
     Ok(())
 }
 
-// The check of an accepted table with places within the limit.
-fn judge(tree: &Tree<'_>, x: &[u32], y: &[u32], work: &mut [u32]) -> Finding
+// The first pair that has no direction, in an accepted table with places within the limit.
+fn judge(tree: &Tree<'_>, x: &[u32], y: &[u32], work: &mut [u32]) -> Option<(u32, u32)>
     requires { Judged tree.now.parent.now tree.now.rank.now x.now y.now work.old }
     ensures { Found tree.now.parent.now x.now y.now (found result) }
 {
@@ -315,14 +318,14 @@ fn judge(tree: &Tree<'_>, x: &[u32], y: &[u32], work: &mut [u32]) -> Finding
     pairs(parent, work)
 }
 
-// The check at given limits.
+// The check at given limits: the first pair that has no direction, or a refusal.
 fn check_within(
     limits: Limits,
     tree: &Tree<'_>,
     x: &[u32],
     y: &[u32],
     work: &mut [u32],
-) -> Result<Finding, Refusal>
+) -> Result<Option<(u32, u32)>, Refusal>
     requires { (limits.nodes ≤ large.nodes) × (limits.place ≤ farthest) }
     ensures { Checked limits tree.now.parent.now tree.now.rank.now x.now y.now
         work.old work.new (verdict result) }
@@ -335,10 +338,13 @@ fn check_within(
 
 // Whether the drawing of a table is monotone: the first pair, by number, whose tree path rises along no direction. The
 // work list is 4n long; refusals 1, 14 and 3 leave it alone.
-pub fn check(tree: &Tree<'_>, x: &[u32], y: &[u32], work: &mut [u32]) -> Result<Finding, Refusal>
+pub fn check(tree: &Tree<'_>, x: &[u32], y: &[u32], work: &mut [u32]) -> Verdict
     ensures { Checked checked tree.now.parent.now tree.now.rank.now x.now y.now
-        work.old work.new (verdict result) }
+        work.old work.new result }
 {
-    let limits = checked_limits();
-    check_within(limits, tree, x, y, work)
+    match check_within(checked_limits(), tree, x, y, work) {
+        Ok(None) => Verdict::Monotone,
+        Ok(Some((u, v))) => Verdict::Turns(u, v),
+        Err(refusal) => Verdict::Refused(refusal.fault.number(), refusal.lot),
+    }
 }

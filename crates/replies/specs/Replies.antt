@@ -19,12 +19,12 @@ use Rattle.aligning.specs.Aligned.{Aligned}
 use Rattle.aligning.specs.Aligned as aligned
 use Rattle.direction.specs.Heading.{Heading}
 use Rattle.direction.specs.Heading as heading
-use Rattle.monotone.specs.Verdict.{Verdict}
-use Rattle.monotone.specs.Verdict as verdict
+use Rattle.monotone.specs.declared.Verdict.{Verdict}
+use Rattle.monotone.specs.declared.Verdict.TheVariants as verdict
 use Rattle.treefile.specs.Saved.{Saved}
 use Rattle.treefile.specs.Saved as saved
-use Rattle.window.specs.View.{View}
-use Rattle.window.specs.View as view
+use Rattle.window.specs.declared.View.{View}
+use Rattle.window.specs.declared.View.TheVariants as view
 
 abbrev pub three : ℤ → ℤ → ℤ → List ℤ
 three a b c = a ∷ b ∷ c ∷ []

@@ -9,9 +9,7 @@ ghost use Rattle.drawing.specs.Framed.{framed};
 ghost use Rattle.arranging.specs.Arranged.{arranged};
 ghost use Rattle.aligning.specs.Aligned.{aligned};
 ghost use Rattle.direction.specs.Heading.{heading};
-ghost use Rattle.monotone.specs.Verdict.{verdict};
 ghost use Rattle.treefile.specs.Saved.{saved};
-ghost use Rattle.window.specs.View.{view};
 ghost use Rattle.replies.specs.Replies.{three, refused_reply, counted_reply, framed_reply, heading_reply, verdict_reply, saved_reply};
 ghost use Rattle.replies.specs.Replies.{four, arranged_reply, aligned_reply, screen, view_reply};
 ghost use Rattle.replies.specs.Replies.{Short, Near};
@@ -20,8 +18,8 @@ use arranging::Stopped;
 use direction::Along;
 use drawing::Frame;
 use faults::Refusal;
-use monotone::Finding;
-use window::Point;
+use monotone::Verdict;
+use window::{Point, View};
 
 // Writes the reply.
 fn put_three(reply: &mut [i64], a: i64, b: i64, c: i64)
@@ -122,14 +120,14 @@ pub fn put_heading(reply: &mut [i64], answer: Result<Along, Refusal>)
     }
 }
 
-pub fn put_verdict(reply: &mut [i64], answer: Result<Finding, Refusal>)
+pub fn put_verdict(reply: &mut [i64], answer: Verdict)
     requires { length reply.old ≡ 3 }
-    ensures { reply.new ≡ verdict_reply (verdict answer) }
+    ensures { reply.new ≡ verdict_reply answer }
 {
     match answer {
-        Ok(Finding::Monotone) => put_numbers(reply, 1, 0, 0),
-        Ok(Finding::Turns(u, v)) => put_numbers(reply, 2, u, v),
-        Err(refusal) => put_refusal(reply, refusal),
+        Verdict::Monotone => put_numbers(reply, 1, 0, 0),
+        Verdict::Turns(u, v) => put_numbers(reply, 2, u, v),
+        Verdict::Refused(number, node) => put_numbers(reply, 0, number, node),
     }
 }
 
@@ -152,16 +150,16 @@ fn put_point(point: &mut [f64], p: Point)
     point[1] = p.up;
 }
 
-pub fn put_view(point: &mut [f64], reply: &mut [i64], answer: Result<Option<Point>, Refusal>)
+pub fn put_view(point: &mut [f64], reply: &mut [i64], answer: View)
     requires { (length point.old ≡ 2) × (length reply.old ≡ 3) }
-    ensures { screen point.new reply.new ≡ view_reply point.old (view answer) }
+    ensures { screen point.new reply.new ≡ view_reply point.old answer }
 {
     match answer {
-        Ok(Some(p)) => {
+        View::Shown(p) => {
             put_point(point, p);
             put_numbers(reply, 1, 0, 0);
         }
-        Ok(None) => put_numbers(reply, 2, 0, 0),
-        Err(refusal) => put_refusal(reply, refusal),
+        View::Outside => put_numbers(reply, 2, 0, 0),
+        View::Refused(number, node) => put_numbers(reply, 0, number, node),
     }
 }

@@ -14,8 +14,8 @@ use Rattle.std.specs.Float.Ieee.Fits.{div-fits}
 use Rattle.laws.specs.Refusals.{never_both, same_refusal}
 use Rattle.laws.specs.Tests.{both, differ}
 use Rattle.window.specs.declared.Point.{Point}
-use Rattle.window.specs.View.{View}
-use Rattle.window.specs.View.{Shown, Outside, Refused}
+use Rattle.window.specs.declared.View.{View}
+use Rattle.window.specs.declared.View.TheVariants.{Shown, Outside, Refused}
 use Rattle.window.specs.Window.{within, inside, Exact, Says}
 use Rattle.window.specs.FractionLaws.{equal_values, equals_itself, one_float, quotient_exact, product_whole}
 

@@ -15,8 +15,8 @@ use Rattle.std.specs.Float.Ieee.{fits}
 use Rattle.std.specs.Float.Ieee.Exact.{HasValue}
 use Rattle.laws.specs.Search.{Refusal, refuse}
 use Rattle.window.specs.declared.Point.{Point}
-use Rattle.window.specs.View.{View}
-use Rattle.window.specs.View.{Shown, Outside, Refused}
+use Rattle.window.specs.declared.View.{View}
+use Rattle.window.specs.declared.View.TheVariants.{Shown, Outside, Refused}
 
 abbrev pub greatest : ℕ
 greatest = 31

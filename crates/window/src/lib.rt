@@ -2,16 +2,22 @@
 #![tactic(auto)]
 
 ghost use Rattle.std.specs.Prelude.{◌≡◌, ◌≤◌};
-ghost use Rattle.window.specs.View.{view};
 ghost use Rattle.window.specs.Window.{greatest, within, Exact, Says};
-
-use faults::{Fault, Refusal};
 
 // A position in a window, in sides of it: from 0 up to, but not, 1.
 #[derive(Clone, Copy)]
 pub struct Point {
     pub across: f64,
     pub up: f64,
+}
+
+// What a window shows of a lot: its position, nothing, or a refusal's number and lot.
+// The screen's form: one enum, whose case Shown carries the point.
+#[derive(Clone, Copy)]
+pub enum View {
+    Shown(Point),
+    Outside,
+    Refused(u32, u32),
 }
 
 // Whether a coordinate lies in a window of this side. Its distance from the corner is compared, because corner + side
@@ -33,22 +39,23 @@ fn scaled(d: u32, m: u32) -> f64
     d as f64 / (1u32 << m) as f64
 }
 
-// Where the place (x, y) stands in the window of side 2^m with its corner at (a, b); none where it lies outside.
-pub fn window(x: u32, y: u32, a: u32, b: u32, m: u32) -> Result<Option<Point>, Refusal>
-    ensures { Says greatest x y a b m (view result) }
+// Where the place (x, y) stands in the window of side 2^m with its corner at (a, b).
+pub fn window(x: u32, y: u32, a: u32, b: u32, m: u32) -> View
+    ensures { Says greatest x y a b m result }
 {
     if 31 < m {
-        return Err(Fault::ExponentTooLarge.at(0));
+        return View::Refused(18, 0);
     }
     let side = 1u32 << m;
     if !is_within(a, side, x) {
-        return Ok(None);
+        return View::Outside;
     }
     if !is_within(b, side, y) {
-        return Ok(None);
+        return View::Outside;
     }
-    Ok(Some(Point {
+    let point = Point {
         across: scaled(x - a, m),
         up: scaled(y - b, m),
-    }))
+    };
+    View::Shown(point)
 }

@@ -1,6 +1,5 @@
 -- The call's own contract, with its answer written.
 use mathlib.Core.Path.{refl}
-use Rattle.monotone.specs.Verdict.{verdict}
 use Rattle.lineage.specs.Exports.{Exported}
 use Rattle.lineage.proofs.lineage_check.Goals as goal
 
@@ -13,7 +12,7 @@ unfolding Exported
 returns c = (
   c.if-reply-ne3.false,
   record {
-    answer = verdict c.check-answer.result;
+    answer = c.check-answer.result;
     kept = c.check-answer.ensures;
     written = c.put_verdict.ensures;
   },

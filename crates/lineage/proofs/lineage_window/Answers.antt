@@ -1,6 +1,5 @@
 -- The call's own contract, with its answer written.
 use mathlib.Core.Path.{refl}
-use Rattle.window.specs.View.{view}
 use Rattle.lineage.specs.Exports.{Replied}
 use Rattle.lineage.proofs.lineage_window.Goals as goal
 
@@ -17,7 +16,7 @@ unfolding Replied
 returns c = (
   (c.if-point-ne2.false, c.if-reply-ne3.false),
   record {
-    answer = view c.window-answer.result;
+    answer = c.window-answer.result;
     kept = c.window-answer.ensures;
     written = c.put_view.ensures;
   },

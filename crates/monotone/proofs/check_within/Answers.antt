@@ -2,7 +2,7 @@
 use Rattle.std.proofs.Common.{sym, ◌∙◌, arith, rules}
 use Rattle.std.proofs.lemmas.Result.{err_from_is_err_and}
 use Rattle.table.specs.Acceptance.{validity-accepted, validity_refused}
-use Rattle.monotone.specs.Verdict.{found}
+use Rattle.monotone.specs.Findings.{found}
 use Rattle.monotone.proofs.Judging.{checked_table, checked_far, checked-found, judged, x_long, y_long, few_nodes}
 use Rattle.monotone.proofs.check_within.Goals as goal
 

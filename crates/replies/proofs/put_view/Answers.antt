@@ -1,27 +1,23 @@
 -- Arm by arm, the point and the three numbers of an answer.
-use Rattle.std.proofs.Common.{Ok, refl, sym, ap, ◌∙◌}
-use Rattle.window.specs.View.{view}
+use mathlib.Core.Path.{refl, sym, ap, ◌∙◌}
 use Rattle.replies.specs.Replies.{view_reply}
 use Rattle.replies.proofs.Numbers.{both_written}
 use Rattle.replies.proofs.put_view.Goals as goal
 
-pub returns-in-Ok-Some : goal.returns-in-Ok-Some
+pub returns-in-Shown : goal.returns-in-Shown
 unfolding view_reply
-returns-in-Ok-Some c =
-    let e = rw c.in-Ok-Some.is at c.in-Ok-Some.field-0-is in
+returns-in-Shown c =
     both_written c.put_point.ensures c.put_numbers.ensures
-    ∙ ap (λ a. view_reply c.args.point.now (view (Ok a))) (sym e)
-    ∙ ap (λ a. view_reply c.args.point.now (view a)) (sym c.in-Ok-Some.is)
+    ∙ ap (view_reply c.args.point.now) (sym c.in-Shown.is)
 
-pub returns-in-Ok-None : goal.returns-in-Ok-None
+pub returns-in-Outside : goal.returns-in-Outside
 unfolding view_reply
-returns-in-Ok-None c =
-    let e = rw c.in-Ok-None.is at c.in-Ok-None.field-0-is in
-    both_written refl c.put_numbers-in-Ok-None.ensures
-    ∙ ap (λ a. view_reply c.args.point.now (view (Ok a))) (sym e)
-    ∙ ap (λ a. view_reply c.args.point.now (view a)) (sym c.in-Ok-None.is)
+returns-in-Outside c =
+    both_written refl c.put_numbers-in-Outside.ensures
+    ∙ ap (view_reply c.args.point.now) (sym c.in-Outside.is)
 
-pub returns-in-Err : goal.returns-in-Err
+pub returns-in-Refused : goal.returns-in-Refused
 unfolding view_reply
-returns-in-Err c =
-    both_written refl c.put_refusal.ensures ∙ ap (λ a. view_reply c.args.point.now (view a)) (sym c.in-Err.is)
+returns-in-Refused c =
+    both_written refl c.put_numbers-in-Refused.ensures
+    ∙ ap (view_reply c.args.point.now) (sym c.in-Refused.is)

@@ -8,7 +8,7 @@ use Rattle.window.proofs.window.Goals as goal
 
 pub returns-then-m-gt31 : goal.returns-then-m-gt31
 unfolding Says
-returns-then-m-gt31 c = rw c.at.ensures (too_wide _ _ c.if-m-gt31.true)
+returns-then-m-gt31 c = too_wide _ _ c.if-m-gt31.true
 
 pub returns-then-not-is_within : goal.returns-then-not-is_within
 unfolding Says
