@@ -18,7 +18,7 @@ use Rattle.laws.specs.Refusals.{settle-none}
 use Rattle.laws.specs.Search.{Outcome}
 use Rattle.drawing.specs.Framed as framed
 use Rattle.drawing.specs.Drawing as drawing
-use Rattle.drawing.specs.Drawing.{Sheet, lengths_fit, lent, fresh, fresh_places, fresh_sheet, frame, layout}
+use Rattle.drawing.specs.Drawing.{Drawing, Sheet, lengths_fit, lent, fresh, fresh_places, fresh_sheet, frame, layout}
 use Rattle.drawing.specs.SheetLaws.{Long, long_fits}
 use Rattle.treefile.specs.TreeFile.{stated_nodes, Read}
 use Rattle.text.specs.Text.{sheet_of, Appended}
@@ -66,6 +66,25 @@ module _ {B X Y : List ℕ} (t : Taken B X Y) where
   pub held_long : (rule : Rule) {u : Sheet} → u ≡ fresh_sheet X Y rule → length u.held ≡ lots_in (length B)
   held_long rule e =
       ap (λ (d : Sheet). length d.held) e ∙ length-replicate (length X) 0 ∙ table_long ∙ sym opened.lots
+
+  -- the second layout is lent the times and the held edges that the first leaves
+  pub both_drawn : (x y : List ℕ) {s u v : Sheet} {d : Drawing} {work again : ℕ} {r q : Framed}
+      → record { answer = r; left = u } ≡ layout large X Y Steep s work
+      → record { answer = q; left = v }
+        ≡ layout large X Y Balanced (drawing.sheet_of (lent u.drawing.times x y) u.held) again
+      → Long (lots_in (length B)) s → length x ≡ lots_in (length B) → length y ≡ lots_in (length B)
+      → work ≡ 4 * lots_in (length B) → again ≡ work → d ≡ v.drawing
+      → (u ≡ fresh_sheet X Y Steep) × (drawing.sheet_of d v.held ≡ fresh_sheet X Y Balanced)
+  both_drawn x y {v = v} l m long ex ey ew ea ed =
+      let steep = drawn_fresh Steep _ _ l long ew in
+      let balanced =
+      drawn_fresh Balanced _ _ m (record {
+        times = times_long Steep steep;
+        x = ex;
+        y = ey;
+        held = held_long Steep steep;
+      }) (ea ∙ ew) in
+      (steep, ap (λ (d : Drawing). drawing.sheet_of d v.held) ed ∙ balanced)
 
   x_long : (rule : Rule) → length (fresh X Y rule).x ≡ stated_nodes B
   unfolding fresh fresh_places

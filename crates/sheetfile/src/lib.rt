@@ -3,11 +3,11 @@
 
 ghost use Rattle.std.specs.Prelude.{◌≡◌, length};
 ghost use Rattle.text.specs.Text.{Appended};
-ghost use Rattle.sheetfile.specs.SheetFile.{lots_in, sheet_text, Fitting, Ample};
+ghost use Rattle.sheetfile.specs.SheetFile.{lots_in, sheet_text, Ample};
 
-use drawing::layout;
+use drawing::{DrawingMut, layout};
 use slopes::Rule;
-use table::printed_limits;
+use table::{Tree, printed_limits};
 use text::{put_refusal, put_sheet};
 use treefile::read_tree_within;
 
@@ -19,64 +19,57 @@ fn lots_in(bytes: &[u8]) -> usize
     n.min(4096)
 }
 
-// The text for the file, with lists that fit it.
-fn fitted_text(
-    bytes: &[u8],
-    parent: &mut [u32],
-    rank: &mut [u32],
-    times: &mut [u32],
-    x: &mut [u32],
-    y: &mut [u32],
-    u: &mut [u32],
-    w: &mut [u32],
-    held: &mut [u32],
-    work: &mut [u32],
-    out: &mut [u8],
-) -> usize
-    requires { Fitting bytes.now parent.old rank.old times.old x.old y.old u.old w.old held.old
-        work.old out.old }
+// Room to work in: lists for a tree, for its two drawings, and for the work. What they hold does not matter.
+#[derive(Drop)]
+pub struct Room<'a> {
+    pub parent: &'a mut [u32],
+    pub rank: &'a mut [u32],
+    pub times: &'a mut [u32],
+    pub x: &'a mut [u32],
+    pub y: &'a mut [u32],
+    pub u: &'a mut [u32],
+    pub w: &'a mut [u32],
+    pub held: &'a mut [u32],
+    pub work: &'a mut [u32],
+}
+
+// Puts the text for the file at the start of `out` and returns its length. The lists may be longer than it
+// needs.
+pub fn sheet_text(bytes: &[u8], room: Room<'_>, out: &mut [u8]) -> usize
+    requires { Ample bytes.now room out.old }
     ensures { Appended out.old out.new 0 result (sheet_text bytes.now) }
 {
+    let n = lots_in(bytes);
+    let Room {
+        parent,
+        rank,
+        times,
+        x,
+        y,
+        u,
+        w,
+        held,
+        work,
+    } = room;
+    let parent = &mut parent[..n];
+    let rank = &mut rank[..n];
+    let times = &mut times[..n];
+    let x = &mut x[..n];
+    let y = &mut y[..n];
+    let u = &mut u[..n];
+    let w = &mut w[..n];
+    let held = &mut held[..n];
+    let work = &mut work[..4 * n];
     let limits = printed_limits();
     if let Err(refusal) = read_tree_within(limits, bytes, parent, rank, work) {
         return put_refusal(out, refusal.fault.number(), refusal.lot);
     }
-    let _ = layout(Rule::Steep, parent, rank, times, x, y, held, work);
-    let _ = layout(Rule::Balanced, parent, rank, times, u, w, held, work);
-    put_sheet(out, x, y, u, w)
-}
-
-// Puts the text for the file at the start of `out` and returns its length. The other lists are room to work in; what
-// they hold does not matter.
-pub fn sheet_text(
-    bytes: &[u8],
-    parent: &mut [u32],
-    rank: &mut [u32],
-    times: &mut [u32],
-    x: &mut [u32],
-    y: &mut [u32],
-    u: &mut [u32],
-    w: &mut [u32],
-    held: &mut [u32],
-    work: &mut [u32],
-    out: &mut [u8],
-) -> usize
-    requires { Ample bytes.now parent.old rank.old times.old x.old y.old u.old w.old held.old
-        work.old out.old }
-    ensures { Appended out.old out.new 0 result (sheet_text bytes.now) }
-{
-    let n = lots_in(bytes);
-    fitted_text(
-        bytes,
-        &mut parent[..n],
-        &mut rank[..n],
-        &mut times[..n],
-        &mut x[..n],
-        &mut y[..n],
-        &mut u[..n],
-        &mut w[..n],
-        &mut held[..n],
-        &mut work[..4 * n],
-        out,
-    )
+    let tree = Tree { parent, rank };
+    let mut steep = DrawingMut { times, x, y };
+    let _ = layout(Rule::Steep, &tree, &mut steep, held, work);
+    let DrawingMut { times, x, y } = steep;
+    let mut balanced = DrawingMut { times, x: u, y: w };
+    let _ = layout(Rule::Balanced, &tree, &mut balanced, held, work);
+    let balanced = balanced.read();
+    put_sheet(out, x, y, balanced.x, balanced.y)
 }

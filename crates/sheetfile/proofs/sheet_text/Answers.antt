@@ -1,33 +1,49 @@
--- The lists are cut to the lots that the file can hold.
-use Rattle.sheetfile.proofs.Cutting.{cut_whole, times_four, fitting}
+-- The lists are cut to the lots that the file can hold. A refusal is printed; an accepted table is laid out under both
+-- rules.
+use mathlib.Core.Path.{refl, sym, ◌∙◌}
+use Rattle.text.proofs.TextLaws.{appended_is}
+use Rattle.sheetfile.specs.SheetFileLaws.{refused_text, taken}
+use Rattle.sheetfile.proofs.Cutting.{cut_long, cut_work}
+use Rattle.sheetfile.proofs.Showing.{both_drawn, both_lines, both_shown, at_limits}
 use Rattle.sheetfile.proofs.sheet_text.Goals as goal
 
-pub slice_bounds-fitted_text-end-2 : goal.slice_bounds-fitted_text-end-2
-slice_bounds-fitted_text-end-2 c = cut_whole _ _ _ c.lots_in-n.ensures c.requires.parent
+pub returns-in-Err : goal.returns-in-Err
+returns-in-Err c =
+    let n = c.lots_in-n.ensures in
+    appended_is (rw c.number.ensures at c.put_refusal.ensures)
+    (sym (refused_text _ _ _ _ (at_limits _ _ _ _ c.printed_limits-limits.ensures c.in-Err.ensures)
+    (cut_long _ n c.requires.parent) (cut_long _ n c.requires.rank) (cut_work _ n c.requires.work) refl))
 
-pub slice_bounds-fitted_text-end-4 : goal.slice_bounds-fitted_text-end-4
-slice_bounds-fitted_text-end-4 c = cut_whole _ _ _ c.lots_in-n.ensures c.requires.rank
+pub put_sheet-requires : goal.put_sheet-requires
+put_sheet-requires c =
+    let n = c.lots_in-n.ensures in
+    let table =
+    taken _ _ _ _ (at_limits _ _ _ _ c.printed_limits-limits.ensures c.in_default.ensures)
+    (cut_long _ n c.requires.parent) (cut_long _ n c.requires.rank) (cut_work _ n c.requires.work) refl in
+    let drawn =
+    both_drawn table _ _ c.layout.ensures.does.says c.layout-2.ensures.does.says (record {
+      times = cut_long _ n c.requires.times;
+      x = cut_long _ n c.requires.steep_x;
+      y = cut_long _ n c.requires.steep_y;
+      held = cut_long _ n c.requires.held;
+    }) (cut_long _ n c.requires.balanced_x) (cut_long _ n c.requires.balanced_y)
+    (c.read_tree_within.ensures.long ∙ cut_work _ n c.requires.work) c.layout.ensures.does.long
+    c.read-balanced.ensures in
+    both_lines table drawn.0 drawn.1 c.requires.long
 
-pub slice_bounds-fitted_text-end-6 : goal.slice_bounds-fitted_text-end-6
-slice_bounds-fitted_text-end-6 c = cut_whole _ _ _ c.lots_in-n.ensures c.requires.times
-
-pub slice_bounds-fitted_text-end-8 : goal.slice_bounds-fitted_text-end-8
-slice_bounds-fitted_text-end-8 c = cut_whole _ _ _ c.lots_in-n.ensures c.requires.steep_x
-
-pub slice_bounds-fitted_text-end-10 : goal.slice_bounds-fitted_text-end-10
-slice_bounds-fitted_text-end-10 c = cut_whole _ _ _ c.lots_in-n.ensures c.requires.steep_y
-
-pub slice_bounds-fitted_text-end-12 : goal.slice_bounds-fitted_text-end-12
-slice_bounds-fitted_text-end-12 c = cut_whole _ _ _ c.lots_in-n.ensures c.requires.balanced_x
-
-pub slice_bounds-fitted_text-end-14 : goal.slice_bounds-fitted_text-end-14
-slice_bounds-fitted_text-end-14 c = cut_whole _ _ _ c.lots_in-n.ensures c.requires.balanced_y
-
-pub slice_bounds-fitted_text-end-16 : goal.slice_bounds-fitted_text-end-16
-slice_bounds-fitted_text-end-16 c = cut_whole _ _ _ c.lots_in-n.ensures c.requires.held
-
-pub slice_bounds-fitted_text-end-18 : goal.slice_bounds-fitted_text-end-18
-slice_bounds-fitted_text-end-18 c = cut_whole _ _ _ (times_four c.lots_in-n.ensures) c.requires.work
-
-pub fitted_text-requires : goal.fitted_text-requires
-fitted_text-requires c = fitting _ c.lots_in-n.ensures c.requires
+pub returns : goal.returns
+returns c =
+    let n = c.lots_in-n.ensures in
+    let table =
+    taken _ _ _ _ (at_limits _ _ _ _ c.printed_limits-limits.ensures c.in_default.ensures)
+    (cut_long _ n c.requires.parent) (cut_long _ n c.requires.rank) (cut_work _ n c.requires.work) refl in
+    let drawn =
+    both_drawn table _ _ c.layout.ensures.does.says c.layout-2.ensures.does.says (record {
+      times = cut_long _ n c.requires.times;
+      x = cut_long _ n c.requires.steep_x;
+      y = cut_long _ n c.requires.steep_y;
+      held = cut_long _ n c.requires.held;
+    }) (cut_long _ n c.requires.balanced_x) (cut_long _ n c.requires.balanced_y)
+    (c.read_tree_within.ensures.long ∙ cut_work _ n c.requires.work) c.layout.ensures.does.long
+    c.read-balanced.ensures in
+    both_shown table drawn.0 drawn.1 c.put_sheet.ensures
