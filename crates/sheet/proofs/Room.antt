@@ -4,15 +4,17 @@ use mathlib.Core.Path.{◌≡◌}
 use Prim.Native.Nat.{ℕ, ◌≤◌}
 use native.Mathlib.Omega.{arith}
 use lib.ListN.{length}
+use Rattle.sheetfile.specs.declared.Room.{Room}
 use Rattle.sheetfile.specs.SheetFile.{lots_in, Ample}
 
 few : (m : ℕ) → lots_in m ≤ 4096
 unfolding lots_in
 few m = omega arith
 
-pub ample : {B P R T x y u w H W out : List ℕ} → 4096 ≡ length P → 4096 ≡ length R → 4096 ≡ length T → 4096 ≡ length x
-    → 4096 ≡ length y → 4096 ≡ length u → 4096 ≡ length w → 4096 ≡ length H → 16384 ≡ length W → 225310 ≡ length out
-    → Ample B P R T x y u w H W out
+pub ample : {B out : List ℕ} {room : Room} → 4096 ≡ length room.parent.now → 4096 ≡ length room.rank.now
+    → 4096 ≡ length room.times.now → 4096 ≡ length room.x.now → 4096 ≡ length room.y.now → 4096 ≡ length room.u.now
+    → 4096 ≡ length room.w.now → 4096 ≡ length room.held.now → 16384 ≡ length room.work.now → 225310 ≡ length out
+    → Ample B room out
 ample {B} p r t x y u w h k o = record {
   parent = omega (arith, few (length B));
   rank = omega (arith, few (length B));
@@ -23,5 +25,5 @@ ample {B} p r t x y u w h k o = record {
   balanced_y = omega (arith, few (length B));
   held = omega (arith, few (length B));
   work = omega (arith, few (length B));
-  room = omega (arith, few (length B));
+  long = omega (arith, few (length B));
 }

@@ -8,6 +8,7 @@
 
 ghost use Rattle.std.specs.Prelude.{◌≤◌, length, IfOk};
 
+use sheetfile::{Room, sheet_text};
 use std::io::{self, ErrorKind, Read, Write};
 use std::process::ExitCode;
 
@@ -47,19 +48,18 @@ fn main(rt: HostRuntime) -> ExitCode {
     let mut held = [0u32; 4096];
     let mut work = [0u32; 16384];
     let mut out = [0u8; 225310];
-    let k = sheetfile::sheet_text(
-        &bytes[..m],
-        &mut parent,
-        &mut rank,
-        &mut times,
-        &mut x,
-        &mut y,
-        &mut u,
-        &mut w,
-        &mut held,
-        &mut work,
-        &mut out,
-    );
+    let room = Room {
+        parent: &mut parent,
+        rank: &mut rank,
+        times: &mut times,
+        x: &mut x,
+        y: &mut y,
+        u: &mut u,
+        w: &mut w,
+        held: &mut held,
+        work: &mut work,
+    };
+    let k = sheet_text(&bytes[..m], room, &mut out);
     let Err(error) = rt.stdout().write_all(&out[..k]) else {
         return ExitCode::SUCCESS;
     };
