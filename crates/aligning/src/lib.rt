@@ -95,7 +95,6 @@ pub fn column(
         (sheet_of (read drawing.now) held.now)
         work.old work.new lot column (aligned result) }
 {
-    column_within(
-        cabinet.limits(), rule, tree, drawing, held, work, lot, column,
-    )
+    let limits = cabinet.limits();
+    column_within(limits, rule, tree, drawing, held, work, lot, column)
 }

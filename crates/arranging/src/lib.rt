@@ -103,7 +103,14 @@ fn lengthen_each_within(
     ensures lists { SameLists drawing.old drawing.new }
 {
     inspect_lists(
-        limits, rule, tree, &drawing.read(), held, work, lots, counts,
+        limits,
+        rule,
+        tree,
+        &drawing.read(),
+        held,
+        work,
+        lots,
+        counts,
     )?;
     let numbered = Numbered {
         parent: tree.parent,
@@ -131,6 +138,13 @@ pub fn lengthen_each(
     ensures lists { SameLists drawing.old drawing.new }
 {
     lengthen_each_within(
-        cabinet.limits(), rule, tree, drawing, held, work, lots, counts,
+        cabinet.limits(),
+        rule,
+        tree,
+        drawing,
+        held,
+        work,
+        lots,
+        counts,
     )
 }

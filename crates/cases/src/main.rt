@@ -9,13 +9,14 @@
 ghost use Rattle.std.specs.Prelude.{◌≤◌};
 
 use arranging::Stopped;
-use drawing::Frame;
+use drawing::{Drawing, DrawingMut, Frame};
 use faults::Refusal;
 use monotone::Verdict;
 use slopes::Rule;
 use std::alloc::{AllocError, Global};
 use std::fmt;
 use std::io::{self, ErrorKind};
+use table::Cabinet;
 
 #[derive(Clone, Copy)]
 enum Shape {
@@ -224,6 +225,14 @@ impl Tree {
         Ok(Tree { parent, rank })
     }
 
+    // The lists, lent to read.
+    fn lent(&self) -> table::Tree<'_> {
+        table::Tree {
+            parent: &self.parent,
+            rank: &self.rank,
+        }
+    }
+
     // Makes the tallest tree of as many nodes as the lists are long.
     fn make_tallest(&mut self, nodes: u32) -> Result<Frame, Refusal> {
         tallest::tallest(nodes, &mut self.parent, &mut self.rank)
@@ -238,15 +247,49 @@ impl fmt::Display for Tree {
     }
 }
 
+// A drawing's times and places.
+#[derive(Drop)]
+struct Drawn {
+    times: Vec<u32>,
+    x: Vec<u32>,
+    y: Vec<u32>,
+}
+
+impl Drawn {
+    fn zeroed(alloc: Global, n: usize) -> Result<Drawn, AllocError> {
+        Ok(Drawn {
+            times: vec![in alloc; 0; n]?,
+            x: vec![in alloc; 0; n]?,
+            y: vec![in alloc; 0; n]?,
+        })
+    }
+
+    // The lists, lent to read.
+    fn lent(&self) -> Drawing<'_> {
+        Drawing {
+            times: &self.times,
+            x: &self.x,
+            y: &self.y,
+        }
+    }
+
+    // The lists, lent to write.
+    fn lent_mut(&mut self) -> DrawingMut<'_> {
+        DrawingMut {
+            times: &mut self.times,
+            x: &mut self.x,
+            y: &mut self.y,
+        }
+    }
+}
+
 // A sheet of a tree under a rule. The work list is four times as long as the others.
 #[derive(Drop)]
 struct Sheet {
     rule: Rule,
     nodes: u32,
     tree: Tree,
-    times: Vec<u32>,
-    x: Vec<u32>,
-    y: Vec<u32>,
+    drawn: Drawn,
     held: Vec<u32>,
     work: Vec<u32>,
 }
@@ -259,9 +302,7 @@ impl Sheet {
             rule: case.rule,
             nodes: case.nodes,
             tree: Tree::of(alloc, case)?,
-            times: vec![in alloc; 0; n]?,
-            x: vec![in alloc; 0; n]?,
-            y: vec![in alloc; 0; n]?,
+            drawn: Drawn::zeroed(alloc, n)?,
             held: vec![in alloc; 0; n]?,
             work: vec![in alloc; 0; 4 * n]?,
         })
@@ -279,12 +320,10 @@ impl Sheet {
     // The fresh drawing.
     fn layout(&mut self) -> Result<Frame, Refusal> {
         drawing::layout(
+            Cabinet::Large,
             self.rule,
-            &self.tree.parent,
-            &self.tree.rank,
-            &mut self.times,
-            &mut self.x,
-            &mut self.y,
+            &self.tree.lent(),
+            &mut self.drawn.lent_mut(),
             &mut self.held,
             &mut self.work,
         )
@@ -292,12 +331,10 @@ impl Sheet {
 
     fn lengthen(&mut self, node: u32, count: u32) -> Result<Frame, Refusal> {
         stretching::lengthen(
+            Cabinet::Large,
             self.rule,
-            &self.tree.parent,
-            &self.tree.rank,
-            &mut self.times,
-            &mut self.x,
-            &mut self.y,
+            &self.tree.lent(),
+            &mut self.drawn.lent_mut(),
             &self.held,
             &mut self.work,
             node,
@@ -307,12 +344,10 @@ impl Sheet {
 
     fn shorten(&mut self, node: u32, count: u32) -> Result<Frame, Refusal> {
         stretching::shorten(
+            Cabinet::Large,
             self.rule,
-            &self.tree.parent,
-            &self.tree.rank,
-            &mut self.times,
-            &mut self.x,
-            &mut self.y,
+            &self.tree.lent(),
+            &mut self.drawn.lent_mut(),
             &self.held,
             &mut self.work,
             node,
@@ -322,12 +357,10 @@ impl Sheet {
 
     fn hold(&mut self, node: u32, on: bool) -> Result<Frame, Refusal> {
         holding::hold(
+            Cabinet::Large,
             self.rule,
-            &self.tree.parent,
-            &self.tree.rank,
-            &self.times,
-            &self.x,
-            &self.y,
+            &self.tree.lent(),
+            &self.drawn.lent(),
             &mut self.held,
             &mut self.work,
             node,
@@ -337,12 +370,10 @@ impl Sheet {
 
     fn lengthen_each(&mut self, lots: &[u32], counts: &[u32]) -> Result<Frame, Stopped> {
         arranging::lengthen_each(
+            Cabinet::Large,
             self.rule,
-            &self.tree.parent,
-            &self.tree.rank,
-            &mut self.times,
-            &mut self.x,
-            &mut self.y,
+            &self.tree.lent(),
+            &mut self.drawn.lent_mut(),
             &self.held,
             &mut self.work,
             lots,
@@ -352,12 +383,10 @@ impl Sheet {
 
     fn column(&mut self, lot: u32, column: u32) -> Result<Option<u32>, Refusal> {
         aligning::column(
+            Cabinet::Large,
             self.rule,
-            &self.tree.parent,
-            &self.tree.rank,
-            &self.times,
-            &self.x,
-            &self.y,
+            &self.tree.lent(),
+            &self.drawn.lent(),
             &self.held,
             &mut self.work,
             lot,
@@ -367,10 +396,9 @@ impl Sheet {
 
     fn check(&mut self) -> Verdict {
         monotone::check(
-            &self.tree.parent,
-            &self.tree.rank,
-            &self.x,
-            &self.y,
+            &self.tree.lent(),
+            &self.drawn.x,
+            &self.drawn.y,
             &mut self.work,
         )
     }
@@ -378,9 +406,9 @@ impl Sheet {
 
 impl fmt::Display for Sheet {
     fn fmt<W: fmt::Write>(&self, f: &mut fmt::Formatter<W>) -> fmt::Result {
-        let times = mixed(&self.times);
-        let x = mixed(&self.x);
-        let y = mixed(&self.y);
+        let times = mixed(&self.drawn.times);
+        let x = mixed(&self.drawn.x);
+        let y = mixed(&self.drawn.y);
         let held = mixed(&self.held);
         write!(f, "{times} {x} {y} {held}")
     }
@@ -453,8 +481,8 @@ impl Sheet {
         let n = self.nodes;
         let middle = self.middle();
         let last = self.last();
-        let a = number_of(&self.x, middle)?;
-        let b = number_of(&self.x, last)?;
+        let a = number_of(&self.drawn.x, middle)?;
+        let b = number_of(&self.drawn.x, last)?;
         let columns = [
             (middle, a),
             (middle, a.wrapping_add(1)),
@@ -486,8 +514,8 @@ impl Sheet {
     fn judge(&mut self, rt: &HostRuntime) -> io::Result<()> {
         let answer = Shown(self.check());
         let parent = mixed(&self.tree.parent);
-        let x = mixed(&self.x);
-        let y = mixed(&self.y);
+        let x = mixed(&self.drawn.x);
+        let y = mixed(&self.drawn.y);
         println!(rt; "{answer} {parent} {x} {y}")
     }
 
@@ -495,8 +523,8 @@ impl Sheet {
     fn judge_twice(&mut self, rt: &HostRuntime) -> io::Result<()> {
         let middle = self.middle();
         self.judge(rt)?;
-        displace(&mut self.x, middle)?;
-        displace(&mut self.y, middle)?;
+        displace(&mut self.drawn.x, middle)?;
+        displace(&mut self.drawn.y, middle)?;
         self.judge(rt)
     }
 }

@@ -71,7 +71,7 @@ module _ {B X Y : List ℕ} (t : Taken B X Y) where
   pub both_drawn : (x y : List ℕ) {s u v : Sheet} {d : Drawing} {work again : ℕ} {r q : Framed}
       → record { answer = r; left = u } ≡ layout large X Y Steep s work
       → record { answer = q; left = v }
-        ≡ layout large X Y Balanced (drawing.sheet_of (lent u.drawing.times x y) u.held) again
+      ≡ layout large X Y Balanced (drawing.sheet_of (lent u.drawing.times x y) u.held) again
       → Long (lots_in (length B)) s → length x ≡ lots_in (length B) → length y ≡ lots_in (length B)
       → work ≡ 4 * lots_in (length B) → again ≡ work → d ≡ v.drawing
       → (u ≡ fresh_sheet X Y Steep) × (drawing.sheet_of d v.held ≡ fresh_sheet X Y Balanced)

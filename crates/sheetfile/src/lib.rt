@@ -7,7 +7,7 @@ ghost use Rattle.sheetfile.specs.SheetFile.{lots_in, sheet_text, Ample};
 
 use drawing::{DrawingMut, layout};
 use slopes::Rule;
-use table::{Tree, printed_limits};
+use table::{Cabinet, Tree, printed_limits};
 use text::{put_refusal, put_sheet};
 use treefile::read_tree_within;
 
@@ -66,10 +66,11 @@ pub fn sheet_text(bytes: &[u8], room: Room<'_>, out: &mut [u8]) -> usize
     }
     let tree = Tree { parent, rank };
     let mut steep = DrawingMut { times, x, y };
-    let _ = layout(Rule::Steep, &tree, &mut steep, held, work);
+    let large = Cabinet::Large;
+    let _ = layout(large, Rule::Steep, &tree, &mut steep, held, work);
     let DrawingMut { times, x, y } = steep;
     let mut balanced = DrawingMut { times, x: u, y: w };
-    let _ = layout(Rule::Balanced, &tree, &mut balanced, held, work);
+    let _ = layout(large, Rule::Balanced, &tree, &mut balanced, held, work);
     let balanced = balanced.read();
     put_sheet(out, x, y, balanced.x, balanced.y)
 }

@@ -274,7 +274,16 @@ pub fn lengthen(
         (to_write work) (λ P R s m. lengthen (limits_of cabinet) P R rule s m lot count) (framed result) }
     ensures lists { SameLists drawing.old drawing.new }
 {
-    lengthen_within(cabinet.limits(), rule, tree, drawing, held, work, lot, count)
+    lengthen_within(
+        cabinet.limits(),
+        rule,
+        tree,
+        drawing,
+        held,
+        work,
+        lot,
+        count,
+    )
 }
 
 // Makes the edge of `lot` shorter by `count` times its slope, moves the lot's subtree back and returns the frame; on a
@@ -293,5 +302,14 @@ pub fn shorten(
         (to_write work) (λ P R s m. shorten (limits_of cabinet) P R rule s m lot count) (framed result) }
     ensures lists { SameLists drawing.old drawing.new }
 {
-    shorten_within(cabinet.limits(), rule, tree, drawing, held, work, lot, count)
+    shorten_within(
+        cabinet.limits(),
+        rule,
+        tree,
+        drawing,
+        held,
+        work,
+        lot,
+        count,
+    )
 }
