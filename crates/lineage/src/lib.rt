@@ -508,7 +508,8 @@ pub extern "C" fn lineage_read_tree(
     if reply.len() != 3 {
         return false;
     }
-    let answer = treefile::read_tree(bytes, parent, rank, work);
+    let limits = Cabinet::Large.limits();
+    let answer = treefile::read_tree(limits, bytes, parent, rank, work);
     put_counted(reply, answer);
     true
 }
@@ -532,7 +533,8 @@ pub extern "C" fn lineage_write_tree(
     if reply.len() != 3 {
         return false;
     }
-    let answer = treefile::write_tree(&Tree { parent, rank }, bytes, work);
+    let limits = Cabinet::Large.limits();
+    let answer = treefile::write_tree(limits, &Tree { parent, rank }, bytes, work);
     put_saved(reply, answer);
     true
 }

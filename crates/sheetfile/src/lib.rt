@@ -9,7 +9,7 @@ use drawing::{DrawingMut, layout};
 use slopes::Rule;
 use table::{Cabinet, Tree, printed_limits};
 use text::{put_refusal, put_sheet};
-use treefile::read_tree_within;
+use treefile::read_tree;
 
 // How many lots the file can hold, and at most 4,096.
 fn lots_in(bytes: &[u8]) -> usize
@@ -61,7 +61,7 @@ pub fn sheet_text(bytes: &[u8], room: Room<'_>, out: &mut [u8]) -> usize
     let held = &mut held[..n];
     let work = &mut work[..4 * n];
     let limits = printed_limits();
-    if let Err(refusal) = read_tree_within(limits, bytes, parent, rank, work) {
+    if let Err(refusal) = read_tree(limits, bytes, parent, rank, work) {
         return put_refusal(out, refusal.fault.number(), refusal.lot);
     }
     let tree = Tree { parent, rank };

@@ -10,3 +10,4 @@ pub mod Acceptance
 pub mod Numbering
 pub mod Parts
 pub mod Examples
+pub mod Firsts

@@ -10,8 +10,9 @@ mod tree;
 
 ghost use Rattle.std.specs.Prelude.{true, [], ◌∷◌, ◌≡◌, ◌+◌, ◌*◌, ◌^◌, ◌≤◌, ◌<◌, length, get_or, set};
 ghost use Rattle.laws.specs.Regions.{Only};
-ghost use Rattle.laws.specs.Search.{least, refuse_least};
+ghost use Rattle.laws.specs.Search.{refuse_least};
 ghost use Rattle.table.specs.Acceptance.{validity};
+ghost use Rattle.table.specs.Firsts.{FirstBelow};
 ghost use Rattle.table.specs.Validity.{valid};
 ghost use Rattle.table.specs.Table.{climb, stray_parent, adrift, all_long, limits_of, checked, printed};
 ghost use Rattle.table.specs.Parts.{Scratch, Zeroed, Tallied, Started, marked, Marking, Reaching, Copied};
@@ -177,21 +178,20 @@ fn starts(parent: &[u32], work: &mut [u32])
     accumulate(parent, work);
 }
 
-// How many steps lead from v up to a marked node: more than n where n steps do not.
-fn steps(parent: &[u32], work: &[u32], v: usize) -> usize
+// How many steps lead from v up to a marked node, at most n; none where n steps do not.
+fn steps(parent: &[u32], work: &[u32], v: usize) -> Option<usize>
     requires { Scratch parent.now work.now × (v < length parent.now) }
-    ensures { result ≡ least (λ k. marked parent.now work.now
-        (climb parent.now k v)) (length parent.now + 1) }
+    ensures { FirstBelow (λ k. marked parent.now work.now (climb parent.now k v)) (length parent.now + 1) result }
 {
     let n = parent.len();
     let mut u = v;
     for k in 0..=n {
         if 0 < get(work, n + u) {
-            return k;
+            return Some(k);
         }
         u = get(parent, u);
     }
-    n + 1
+    None
 }
 
 // Marks the first k nodes on the way up from v, which leads to a marked one.
@@ -220,10 +220,9 @@ fn test_paths(parent: &[u32], work: &mut [u32]) -> Result<(), Refusal>
 {
     let n = parent.len();
     for v in 1..n {
-        let k = steps(parent, work, v);
-        if n < k {
+        let Some(k) = steps(parent, work, v) else {
             return Err(Fault::Loop.at(v));
-        }
+        };
         mark(parent, work, v, k);
     }
     Ok(())

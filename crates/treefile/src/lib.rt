@@ -4,14 +4,13 @@
 ghost use Rattle.std.specs.Prelude.{◌≡◌, ◌+◌, ◌*◌, ◌^◌, ◌≤◌, ◌<◌, length};
 ghost use Rattle.laws.specs.Regions.{Only};
 ghost use Rattle.table.specs.Counted.{counted};
-ghost use Rattle.table.specs.Table.{large};
 ghost use Rattle.table.specs.Parts.{Copied};
 ghost use Rattle.treefile.specs.Parts.{Opened, Tabled, WordPut, Encoded};
 ghost use Rattle.treefile.specs.Saved.{saved};
 ghost use Rattle.treefile.specs.TreeFile.{word_at, words, stated_or_zero, Read, Wrote};
 
 use faults::{Fault, Refusal};
-use table::{Cabinet, Limits, Tree};
+use table::{Limits, Tree};
 
 // The number in the 4 bytes from i on, least byte first.
 fn word(bytes: &[u8], i: usize) -> usize
@@ -80,7 +79,7 @@ fn load(
 
 // Reads a tree file at the limits: refusals 16, 1, 2, 17, 3, then 4 to 7 on the file's table. The two lists are filled
 // only when the table is accepted, and hold what they held otherwise.
-pub fn read_tree_within(
+pub fn read_tree(
     limits: Limits,
     bytes: &[u8],
     parent: &mut [u32],
@@ -136,7 +135,7 @@ fn encode(list: &[u32], bytes: &mut [u8], a: usize)
 
 // Writes the file of an accepted table at the limits: refusals 1 to 7, then 17 where the lent bytes are not 4 + 8n
 // long. Nothing is written on a refusal.
-pub fn write_tree_within(
+pub fn write_tree(
     limits: Limits,
     tree: &Tree<'_>,
     bytes: &mut [u8],
@@ -154,27 +153,4 @@ pub fn write_tree_within(
     encode(tree.parent, bytes, 4);
     encode(tree.rank, bytes, 4 + 4 * n);
     Ok(4 + 8 * n)
-}
-
-// Reads a tree file of at most 65,536 nodes.
-pub fn read_tree(
-    bytes: &[u8],
-    parent: &mut [u32],
-    rank: &mut [u32],
-    work: &mut [u32],
-) -> Result<u32, Refusal>
-    ensures { Read large bytes.now parent.old rank.old work.old
-        parent.new rank.new work.new (counted result) }
-{
-    let limits = Cabinet::Large.limits();
-    read_tree_within(limits, bytes, parent, rank, work)
-}
-
-// Writes the file of an accepted table of at most 65,536 nodes.
-pub fn write_tree(tree: &Tree<'_>, bytes: &mut [u8], work: &mut [u32]) -> Result<usize, Refusal>
-    ensures { Wrote large tree.now.parent.now tree.now.rank.now bytes.old work.old
-        bytes.new work.new (saved result) }
-{
-    let limits = Cabinet::Large.limits();
-    write_tree_within(limits, tree, bytes, work)
 }

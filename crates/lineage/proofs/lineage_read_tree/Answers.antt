@@ -14,7 +14,7 @@ returns c = (
   c.if-reply-ne3.false,
   record {
     answer = counted c.read_tree-answer.result;
-    kept = c.read_tree-answer.ensures;
+    kept = rw c.limits-limits.ensures at c.read_tree-answer.ensures;
     written = c.put_counted.ensures;
   },
 )

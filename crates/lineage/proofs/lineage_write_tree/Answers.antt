@@ -10,7 +10,7 @@ unfolding Exported
 returns-then-reply-ne3 c = (c.if-reply-ne3.true, refl, (refl, refl))
 
 pub put_saved-requires : goal.put_saved-requires
-put_saved-requires c = (c.if-reply-ne3.false, written_short _ _ _ _ c.write_tree-answer.ensures)
+put_saved-requires c = (c.if-reply-ne3.false, written_short _ _ _ _ (rw c.limits-limits.ensures at c.write_tree-answer.ensures))
 
 pub returns : goal.returns
 unfolding Exported
@@ -18,7 +18,7 @@ returns c = (
   c.if-reply-ne3.false,
   record {
     answer = saved c.write_tree-answer.result;
-    kept = c.write_tree-answer.ensures;
+    kept = rw c.limits-limits.ensures at c.write_tree-answer.ensures;
     written = c.put_saved.ensures;
   },
 )

@@ -27,7 +27,7 @@ put_sheet-requires c =
       y = cut_long _ n c.requires.steep_y;
       held = cut_long _ n c.requires.held;
     }) (cut_long _ n c.requires.balanced_x) (cut_long _ n c.requires.balanced_y)
-    (c.read_tree_within.ensures.long ∙ cut_work _ n c.requires.work) c.layout.ensures.does.long
+    (c.read_tree.ensures.long ∙ cut_work _ n c.requires.work) c.layout.ensures.does.long
     c.read-balanced.ensures in
     both_lines table drawn.0 drawn.1 c.requires.long
 
@@ -44,6 +44,6 @@ returns c =
       y = cut_long _ n c.requires.steep_y;
       held = cut_long _ n c.requires.held;
     }) (cut_long _ n c.requires.balanced_x) (cut_long _ n c.requires.balanced_y)
-    (c.read_tree_within.ensures.long ∙ cut_work _ n c.requires.work) c.layout.ensures.does.long
+    (c.read_tree.ensures.long ∙ cut_work _ n c.requires.work) c.layout.ensures.does.long
     c.read-balanced.ensures in
     both_shown table drawn.0 drawn.1 c.put_sheet.ensures

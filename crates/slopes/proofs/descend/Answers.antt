@@ -1,8 +1,8 @@
 -- `slopes::descend` meets its contract. The loop's invariant is a walk towards the position: the turns that are left
--- are the bits of the position from `bit` down to the one above the lowest 1. The measure is `bit`.
+-- are the bits of the position from the one below `bit` down to the one above the lowest 1.
 use native.Mathlib.Omega.{arith}
 use mathlib.Core.Path.{◌∙◌}
-use Rattle.slopes.proofs.Descent.{trailing_ends, ends_below}
+use Rattle.slopes.proofs.Descent.{trailing_ends}
 use Rattle.slopes.proofs.Walk.{walk_start, walk_fits, walk_right, walk_left, walk_end}
 use Rattle.slopes.proofs.descend.Goals as goal
 
@@ -14,18 +14,14 @@ mediant-middle-requires c = walk_fits c.loop-bit.invariant c.requires.0
 
 pub loop-bit-preserved-then-turn-eq1 : goal.loop-bit-preserved-then-turn-eq1
 loop-bit-preserved-then-turn-eq1 c =
-    rw c.mediant-middle.ensures (walk_right c.loop-bit.invariant c.loop-bit-test.true c.if-turn-eq1.true)
+    rw c.mediant-middle.ensures (walk_right c.loop-bit.invariant (omega arith) c.if-turn-eq1.true)
 
 pub loop-bit-preserved : goal.loop-bit-preserved
 loop-bit-preserved c =
-    rw c.mediant-middle.ensures (walk_left c.loop-bit.invariant c.loop-bit-test.true c.if-turn-eq1.false)
+    rw c.mediant-middle.ensures (walk_left c.loop-bit.invariant (omega arith) c.if-turn-eq1.false)
 
 pub mediant-requires : goal.mediant-requires
 mediant-requires c = walk_fits c.loop-bit.invariant c.requires.0
 
 pub returns : goal.returns
-returns c = c.mediant.ensures ∙ walk_end c.loop-bit.invariant c.loop-bit-test.false
-
-pub overflow_sub-bit : goal.overflow_sub-bit
-overflow_sub-bit c =
-    omega (arith, ends_below _ _ _ (trailing_ends 32 c.args.j c.requires.1 c.ranges.j.fits) c.requires.2)
+returns c = c.mediant.ensures ∙ walk_end c.loop-bit.invariant (omega arith)

@@ -2,7 +2,7 @@
 use Rattle.std.proofs.Common.{refl, arith}
 use Rattle.std.proofs.lemmas.Result.{err_from_is_err_and}
 use Rattle.treefile.proofs.Encoding.{accepted, wrote_refused, wrote_17, wrote_file, file_written}
-use Rattle.treefile.proofs.write_tree_within.Goals as goal
+use Rattle.treefile.proofs.write_tree.Goals as goal
 
 pub returns-in_err-validate : goal.returns-in_err-validate
 returns-in_err-validate c =

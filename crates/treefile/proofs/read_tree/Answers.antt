@@ -2,7 +2,7 @@
 use borrow.Author.Rules.{rules}
 use Rattle.treefile.proofs.Opening.{refused_16, refused_1, refused_2, refused_17, refused_3_parents}
 use Rattle.treefile.proofs.Opening.{refused_3_ranks, refused_3_work, opened, read}
-use Rattle.treefile.proofs.read_tree_within.Goals as goal
+use Rattle.treefile.proofs.read_tree.Goals as goal
 
 pub returns-then-bytes-lt4 : goal.returns-then-bytes-lt4
 returns-then-bytes-lt4 c =
