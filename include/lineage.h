@@ -160,9 +160,9 @@ bool lineage_column(bool balanced, const uint32_t *parent, size_t parent_length,
 /* The small cabinet: at most 1,024 lots, and no place above 1,048,575. Its layout, lengthen and shorten are calls of
  * their own, which refuse more lots with 20, in the place of 2; a place that would be above with 21, in the place of
  * 11; and a sheet that has such a place with 8. Within these limits they reply what the calls above reply, and leave
- * what those leave, refusals too; so a sheet may go from one cabinet to the other, and the other calls serve both. The
- * count that lineage_column replies is the small cabinet's where lineage_small_lengthen accepts it; where it does not,
- * no count brings the lot there.
+ * what those leave, refusals too; so a sheet may go from one cabinet to the other, and lineage_hold, lineage_direction
+ * and lineage_check serve both. The count that lineage_column replies is the small cabinet's where
+ * lineage_small_lengthen accepts it; where it does not, no count brings the lot there.
  *
  * Refusals 1, 20, 3 to 7. */
 bool lineage_small_layout(bool balanced, const uint32_t *parent, size_t parent_length, const uint32_t *rank,
