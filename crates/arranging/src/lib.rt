@@ -133,7 +133,8 @@ pub fn lengthen_each(
     lots: &[u32],
     counts: &[u32],
 ) -> Result<Frame, Stopped>
-    ensures arranges { Arranges (limits_of cabinet) (parents tree) (ranks tree) rule (sheet_written drawing (to_read held))
+    ensures arranges { Arranges (limits_of cabinet) (parents tree) (ranks tree) rule
+        (sheet_written drawing (to_read held))
         (to_write work) (to_read lots) (to_read counts) (arranged result) }
     ensures lists { SameLists drawing.old drawing.new }
 {

@@ -90,7 +90,7 @@ const TREES: [(Shape, u32); 10] = [
     (Shape::Random, 65536),
 ];
 
-// A call on a sheet: a node, and by how much its edge is lengthened or shortened.
+// A call on a sheet: a node, and by how much its edge is lengthened or shortened; or that it is held or freed.
 #[derive(Clone, Copy)]
 enum Call {
     Lengthen(u32, u32),

@@ -1,5 +1,5 @@
 -- No two grounds have one number.
-use Rattle.std.specs.Prelude.{ℕ, zero, suc, ◌≡◌, refl}
+use Rattle.std.specs.Prelude.{List, [], ◌∷◌, ◌≡◌, refl, ℕ, zero, suc}
 use Rattle.std.proofs.Common.{sym, ap, ◌∙◌}
 use Rattle.faults.specs.declared.Fault.{Fault}
 use Rattle.faults.specs.declared.Fault.TheVariants.{NoLots, TooManyLots, WrongLength, WrongRoot, NoSuchParent, WrongRank}
@@ -8,7 +8,6 @@ use Rattle.faults.specs.declared.Fault.TheVariants.{SameLots, TooManyToCheck, Pa
 use Rattle.faults.specs.declared.Fault.TheVariants.{WrongFileLength, ExponentTooLarge, ListsDiffer, TooManyForSmall}
 use Rattle.faults.specs.declared.Fault.TheVariants.{WouldPassSmallPlace, Held}
 use Rattle.faults.specs.Numbers.{number}
-use Rattle.std.specs.Prelude.{List, [], ◌∷◌}
 
 -- the grounds in the order of their numbers, from 0 on; the last one beyond
 nth : List Fault → Fault → ℕ → Fault

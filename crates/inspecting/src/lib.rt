@@ -76,7 +76,8 @@ fn node_fits(
     placed(limit, drawing.y, p, v, product(t, slope.up))
 }
 
-// How many lots fit before the first that does not, where the root fits: node by node, each with a slope found by itself.
+// How many lots fit before the first that does not, where the root fits: node by node, each with a slope found by
+// itself.
 fn misfit_by_node(limit: usize, rule: Rule, tree: &Numbered<'_>, drawing: &Drawing<'_>) -> usize
     requires { Sized tree.now.parent.now tree.now.rank.now (read drawing.now) tree.now.work.now
         × (root_fits (read drawing.now) ≡ true) }
@@ -116,8 +117,8 @@ fn all_fit(limit: usize, rule: Rule, tree: &Numbered<'_>, drawing: &Drawing<'_>)
     true
 }
 
-// How many lots fit before the first that does not. A steep slope is told by its number alone; balanced ones are quicker in
-// order, and node by node only where some node doesn't fit.
+// How many lots fit before the first that does not. A steep slope is told by its number alone; balanced ones are quicker
+// in order, and node by node only where some node doesn't fit.
 fn first_misfit(limit: usize, rule: Rule, tree: &Numbered<'_>, drawing: &Drawing<'_>) -> usize
     requires { Sized tree.now.parent.now tree.now.rank.now (read drawing.now) tree.now.work.now }
     ensures { result ≡ least (misfit limit tree.now.parent.now tree.now.rank.now rule

@@ -29,7 +29,8 @@ ghost use Rattle.monotone.specs.Cones.{Grown};
 use faults::Refusal;
 use table::{Limits, Tree, both_long, checked_limits, clear, get, put};
 
-// What the check answers: every pair has a direction, the first pair that has none, or a refusal's number and lot.
+// What the check answers: every pair has a direction, the first pair that has none, or a refusal's number and lot. One
+// enum and no Result, as the document of the check names it.
 #[derive(Clone, Copy)]
 pub enum Verdict {
     Monotone,
@@ -39,6 +40,7 @@ pub enum Verdict {
 
 // The cone of a path with no edge, and of one that no half plane holds. Any other is the node of the clockwise side
 // times `SIDE` and the node of the other side; 0 stands for a cone that is not known yet.
+// A cone is one number, and no enum, since the lent work list has one for each node.
 const EMPTY: usize = 1;
 
 const SHUT: usize = 2;

@@ -10,7 +10,8 @@ ghost use Rattle.arranging.specs.Arranged.{arranged};
 ghost use Rattle.aligning.specs.Aligned.{aligned};
 ghost use Rattle.direction.specs.Heading.{heading};
 ghost use Rattle.treefile.specs.Saved.{saved};
-ghost use Rattle.replies.specs.Replies.{three, refused_reply, counted_reply, framed_reply, heading_reply, verdict_reply, saved_reply};
+ghost use Rattle.replies.specs.Replies.{three, refused_reply, counted_reply, framed_reply, heading_reply};
+ghost use Rattle.replies.specs.Replies.{verdict_reply, saved_reply};
 ghost use Rattle.replies.specs.Replies.{four, arranged_reply, aligned_reply, screen, view_reply};
 ghost use Rattle.replies.specs.Replies.{Short, Near};
 

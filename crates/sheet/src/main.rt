@@ -22,6 +22,7 @@ fn read_full<R: Read>(input: &mut R, bytes: &mut [u8]) -> io::Result<usize>
     ensures { IfOk result (λ m. m ≤ length bytes.new) }
 {
     let mut m = 0;
+    // It goes on by as many bytes as came, and counts no index.
     while m < bytes.len() {
         let k = input.read(&mut bytes[m..])?;
         if k == 0 {

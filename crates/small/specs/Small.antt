@@ -1,6 +1,6 @@
 -- What the small cabinet has of the large one (document 02, request 106: "Within its limits the small cabinet gets
 -- exactly the large one's replies and lists"), said of any limits S within limits L. Its calls are layout, lengthen and
--- shorten at the limits `small`; hold has no entry of its own, so the large one's serves both cabinets.
+-- shorten at the limits `small`; in the C interface hold has no entry of its own, so the large one's serves both.
 --
 --   Narrower S L     == the limits S are within the limits L
 --   Near limit n s   == no place of the sheet s of n nodes is beyond the limit

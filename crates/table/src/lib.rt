@@ -40,7 +40,7 @@ pub enum Cabinet {
 }
 
 impl Cabinet {
-    // The limits of its calls; those of the large one are also those of every call that names no cabinet, but the check.
+    // The limits of its calls; those of the large one are also those of a call that names no cabinet, but the check.
     pub fn limits(self) -> Limits
         ensures { result ≡ limits_of self }
     {

@@ -11,8 +11,8 @@ pub struct Point {
     pub up: f64,
 }
 
-// What a window shows of a lot: its position, nothing, or a refusal's number and lot.
-// The screen's form: one enum, whose case Shown carries the point.
+// What a window shows of a lot: its position, nothing, or a refusal's number and lot. One enum and no Result, as the
+// document of the screen names it: the case Shown carries the point.
 #[derive(Clone, Copy)]
 pub enum View {
     Shown(Point),

@@ -1,4 +1,4 @@
--- Every node with a number above j fits.
+-- Every node with a number from j on fits.
 use native.Mathlib.Omega.{arith}
 use Rattle.slopes.proofs.Backward.{backward_start, backward_edge, backward_ready, backward_step}
 use Rattle.inspecting.proofs.Fitting.{above_start, above_step, above_not, above_end}
