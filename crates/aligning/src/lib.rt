@@ -55,7 +55,7 @@ fn count_to(
 }
 
 // Column at any limits.
-fn column_within(
+pub fn column_within(
     limits: Limits,
     rule: Rule,
     tree: &Tree<'_>,

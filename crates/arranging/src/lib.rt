@@ -87,7 +87,7 @@ fn lengthen_in_turn(
 }
 
 // Lengthen each at any limits whose frames are numbers of 32 bits.
-fn lengthen_each_within(
+pub fn lengthen_each_within(
     limits: Limits,
     rule: Rule,
     tree: &Tree<'_>,

@@ -28,7 +28,7 @@ fn mark(held: &mut [u32], v: usize, on: bool)
 }
 
 // Hold at any limits whose frames are numbers of 32 bits.
-fn hold_within(
+pub fn hold_within(
     limits: Limits,
     rule: Rule,
     tree: &Tree<'_>,

@@ -202,7 +202,7 @@ pub fn lengthen_edge(
 }
 
 // Lengthen at any limits whose frames are numbers of 32 bits.
-fn lengthen_within(
+pub fn lengthen_within(
     limits: Limits,
     rule: Rule,
     tree: &Tree<'_>,
@@ -228,7 +228,7 @@ fn lengthen_within(
 }
 
 // Shorten at any limits whose frames are numbers of 32 bits.
-fn shorten_within(
+pub fn shorten_within(
     limits: Limits,
     rule: Rule,
     tree: &Tree<'_>,
