@@ -102,13 +102,16 @@ pub fn put(w: &mut [u32], i: usize, x: usize)
     w[i] = x as u32;
 }
 
-// Copies what the work list holds from a on into the list.
+// Copies what the work list holds from a on into the list. It is a loop, since the library's copy would have the archive
+// for C ask the system for memmove.
 pub fn copy_out(work: &[u32], a: usize, list: &mut [u32])
     requires { a + length list.old ≤ length work.now }
     ensures { Copied list.new work.now a
         × (length list.new ≡ length list.old) }
 {
-    list.copy_from_slice(&work[a..a + list.len()]);
+    for (i, to) in list.iter_mut().enumerate() {
+        *to = work[a + i];
+    }
 }
 
 // Whether two lists are n long.

@@ -41,13 +41,15 @@ fn decode(bytes: &[u8], a: usize, list: &mut [u32])
     }
 }
 
-// Copies the list into the work list from a on.
+// Copies the list into the work list from a on, by a loop as `copy_out` does.
 fn save(list: &[u32], work: &mut [u32], a: usize)
     requires { a + length list.now ≤ length work.old }
     ensures { Copied list.now work.new a
         × Only a (a + length list.now) work.old work.new }
 {
-    work[a..a + list.len()].copy_from_slice(list);
+    for (i, w) in list.iter().enumerate() {
+        work[a + i] = *w;
+    }
 }
 
 // Loads the file's table into the two lists, keeping what they held in the work list, and puts that back where the
