@@ -7,7 +7,7 @@ use Rattle.faults.specs.declared.Fault.TheVariants.{NoLots, TooManyLots, WrongLe
 use Rattle.faults.specs.declared.Fault.TheVariants.{Loop, NoSheet, NoSuchLot, NoEdge, WouldPassMaxPlace, CountTooLarge}
 use Rattle.faults.specs.declared.Fault.TheVariants.{SameLots, TooManyToCheck, PassesMaxPlace, FileTooShort}
 use Rattle.faults.specs.declared.Fault.TheVariants.{WrongFileLength, ExponentTooLarge, ListsDiffer, TooManyForSmall}
-use Rattle.faults.specs.declared.Fault.TheVariants.{WouldPassSmallPlace, Held}
+use Rattle.faults.specs.declared.Fault.TheVariants.{WouldPassSmallPlace, Held, Other}
 
 abbrev pub number : Fault → ℕ
 number NoLots = 1
@@ -32,3 +32,4 @@ number ListsDiffer = 19
 number TooManyForSmall = 20
 number WouldPassSmallPlace = 21
 number Held = 22
+number (Other o) = o.number
