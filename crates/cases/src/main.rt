@@ -13,7 +13,6 @@ use drawing::{Drawing, DrawingMut, Frame};
 use faults::Refusal;
 use monotone::Verdict;
 use slopes::Rule;
-use std::alloc::{AllocError, Global};
 use std::fmt;
 use std::io::{self, ErrorKind};
 use table::Cabinet;
@@ -41,6 +40,9 @@ impl Shape {
         }
     }
 }
+
+// The cabinet that makes all calls.
+const LARGE: Cabinet = Cabinet::Large;
 
 // A small linear congruential generator.
 #[derive(Clone, Copy)]
@@ -175,6 +177,15 @@ fn mixed(list: &[u32]) -> u32 {
     list.iter().fold(0, |h, a| mix(h, *a))
 }
 
+// The two lists of a tree, each mixed into one number.
+impl fmt::Display for Shown<table::Tree<'_>> {
+    fn fmt<W: fmt::Write>(&self, f: &mut fmt::Formatter<W>) -> fmt::Result {
+        let parent = mixed(self.0.parent);
+        let rank = mixed(self.0.rank);
+        write!(f, "{parent} {rank}")
+    }
+}
+
 // The number of a node in a list.
 fn number_of(list: &[u32], node: u32) -> io::Result<u32> {
     list.get(node as usize)
@@ -182,130 +193,113 @@ fn number_of(list: &[u32], node: u32) -> io::Result<u32> {
         .ok_or(ErrorKind::InvalidInput.into())
 }
 
-// A coordinate of a node becomes that of the node before.
-fn displace(places: &mut [u32], node: u32) -> io::Result<()> {
-    let before = number_of(places, node.saturating_sub(1))?;
-    let Some(place) = places.get_mut(node as usize) else {
+// Puts a number at a node of a list.
+fn set_number(list: &mut [u32], node: u32, number: u32) -> io::Result<()> {
+    let Some(place) = list.get_mut(node as usize) else {
         return Err(ErrorKind::InvalidInput.into());
     };
-    *place = before;
+    *place = number;
     Ok(())
 }
 
-// A tree's parents and ranks.
+// A coordinate of a node becomes that of the node before.
+fn displace(places: &mut [u32], node: u32) -> io::Result<()> {
+    let before = number_of(places, node.saturating_sub(1))?;
+    set_number(places, node, before)
+}
+
+// The first n numbers of a list, or all where it has fewer.
+fn first(list: &[u32], n: usize) -> &[u32] {
+    &list[..n.min(list.len())]
+}
+
+// The same, lent to write.
+fn first_mut(list: &mut [u32], n: usize) -> &mut [u32] {
+    let most = n.min(list.len());
+    &mut list[..most]
+}
+
+// A tree's parents and ranks: the first numbers of arrays that fit the largest tree. The program has fixed memory, and
+// no heap.
 #[derive(Drop)]
 struct Tree {
-    parent: Vec<u32>,
-    rank: Vec<u32>,
+    parent: [u32; 65537],
+    rank: [u32; 65537],
 }
 
 impl Tree {
-    fn zeroed(alloc: Global, nodes: u32) -> Result<Tree, AllocError> {
-        Ok(Tree {
-            parent: vec![in alloc; 0; nodes as usize]?,
-            rank: vec![in alloc; 0; nodes as usize]?,
-        })
-    }
-
-    // The tree of a case: each node comes after the children that its parent has.
-    fn of(alloc: Global, case: Case) -> Result<Tree, AllocError> {
+    // Makes the tree of a case: each node comes after the children that its parent has, which `used` counts.
+    fn grow(&mut self, case: Case, used: &mut [u32]) -> io::Result<()> {
         let n = case.nodes;
         let name = |v: u32| { if case.relabelled && 0 < v { n - v } else { v } };
-        let mut parent = vec![in alloc; 0; n as usize]?;
-        let mut rank = vec![in alloc; 0; n as usize]?;
-        let mut used = vec![in alloc; 0u32; n as usize]?;
+        self.parent.fill(0);
+        self.rank.fill(0);
+        used.fill(0);
         let mut random = Random(1);
         for v in 1..n {
-            let child = name(v) as usize;
+            let child = name(v);
             let above = name(case.shape.parent(n, v - 1, &mut random));
-            parent[child] = above;
-            rank[child] = used[above as usize];
-            used[above as usize] = used[above as usize].wrapping_add(1);
+            let rank = number_of(used, above)?;
+            set_number(&mut self.parent, child, above)?;
+            set_number(&mut self.rank, child, rank)?;
+            set_number(used, above, rank.wrapping_add(1))?;
         }
-        Ok(Tree { parent, rank })
+        Ok(())
     }
 
-    // The lists, lent to read.
-    fn lent(&self) -> table::Tree<'_> {
+    // The lists of n nodes, lent to read.
+    fn lent(&self, n: usize) -> table::Tree<'_> {
         table::Tree {
-            parent: &self.parent,
-            rank: &self.rank,
+            parent: first(&self.parent, n),
+            rank: first(&self.rank, n),
         }
     }
 
-    // Makes the tallest tree of as many nodes as the lists are long.
+    // Makes the tallest tree of so many nodes, on lists that are zeroed.
     fn make_tallest(&mut self, nodes: u32) -> Result<Frame, Refusal> {
-        tallest::tallest(nodes, &mut self.parent, &mut self.rank)
+        self.parent.fill(0);
+        self.rank.fill(0);
+        let n = nodes as usize;
+        let parent = first_mut(&mut self.parent, n);
+        let rank = first_mut(&mut self.rank, n);
+        tallest::tallest(nodes, parent, rank)
     }
 }
 
-impl fmt::Display for Tree {
-    fn fmt<W: fmt::Write>(&self, f: &mut fmt::Formatter<W>) -> fmt::Result {
-        let parent = mixed(&self.parent);
-        let rank = mixed(&self.rank);
-        write!(f, "{parent} {rank}")
-    }
-}
-
-// A drawing's times and places.
-#[derive(Drop)]
-struct Drawn {
-    times: Vec<u32>,
-    x: Vec<u32>,
-    y: Vec<u32>,
-}
-
-impl Drawn {
-    fn zeroed(alloc: Global, n: usize) -> Result<Drawn, AllocError> {
-        Ok(Drawn {
-            times: vec![in alloc; 0; n]?,
-            x: vec![in alloc; 0; n]?,
-            y: vec![in alloc; 0; n]?,
-        })
-    }
-
-    // The lists, lent to read.
-    fn lent(&self) -> Drawing<'_> {
-        Drawing {
-            times: &self.times,
-            x: &self.x,
-            y: &self.y,
-        }
-    }
-
-    // The lists, lent to write.
-    fn lent_mut(&mut self) -> DrawingMut<'_> {
-        DrawingMut {
-            times: &mut self.times,
-            x: &mut self.x,
-            y: &mut self.y,
-        }
-    }
-}
-
-// A sheet of a tree under a rule. The work list is four times as long as the others.
+// A sheet of a tree under a rule, in arrays as the tree's. The work list is four times as long as the others.
 #[derive(Drop)]
 struct Sheet {
     rule: Rule,
     nodes: u32,
     tree: Tree,
-    drawn: Drawn,
-    held: Vec<u32>,
-    work: Vec<u32>,
+    times: [u32; 65537],
+    x: [u32; 65537],
+    y: [u32; 65537],
+    held: [u32; 65537],
+    work: [u32; 262148],
 }
 
 // The library's calls, each in one place.
 impl Sheet {
-    fn zeroed(alloc: Global, case: Case) -> Result<Sheet, AllocError> {
-        let n = case.nodes as usize;
-        Ok(Sheet {
-            rule: case.rule,
-            nodes: case.nodes,
-            tree: Tree::of(alloc, case)?,
-            drawn: Drawn::zeroed(alloc, n)?,
-            held: vec![in alloc; 0; n]?,
-            work: vec![in alloc; 0; 4 * n]?,
-        })
+    // Takes the tree and the rule of a case, and zeroes for its sheet.
+    fn take(&mut self, case: Case) -> io::Result<()> {
+        self.rule = case.rule;
+        self.nodes = case.nodes;
+        self.times.fill(0);
+        self.x.fill(0);
+        self.y.fill(0);
+        self.held.fill(0);
+        self.tree.grow(case, &mut self.work)
+    }
+
+    // The drawing, lent to read.
+    fn drawing(&self) -> Drawing<'_> {
+        let n = self.nodes as usize;
+        Drawing {
+            times: first(&self.times, n),
+            x: first(&self.x, n),
+            y: first(&self.y, n),
+        }
     }
 
     // The middle node.
@@ -319,113 +313,99 @@ impl Sheet {
 
     // The fresh drawing.
     fn layout(&mut self) -> Result<Frame, Refusal> {
-        drawing::layout(
-            Cabinet::Large,
-            self.rule,
-            &self.tree.lent(),
-            &mut self.drawn.lent_mut(),
-            &mut self.held,
-            &mut self.work,
-        )
+        let n = self.nodes as usize;
+        let rule = self.rule;
+        let tree = self.tree.lent(n);
+        let mut drawing = DrawingMut {
+            times: first_mut(&mut self.times, n),
+            x: first_mut(&mut self.x, n),
+            y: first_mut(&mut self.y, n),
+        };
+        let held = first_mut(&mut self.held, n);
+        let work = first_mut(&mut self.work, 4 * n);
+        drawing::layout(LARGE, rule, &tree, &mut drawing, held, work)
     }
 
-    fn lengthen(&mut self, node: u32, count: u32) -> Result<Frame, Refusal> {
-        stretching::lengthen(
-            Cabinet::Large,
-            self.rule,
-            &self.tree.lent(),
-            &mut self.drawn.lent_mut(),
-            &self.held,
-            &mut self.work,
-            node,
-            count,
-        )
-    }
-
-    fn shorten(&mut self, node: u32, count: u32) -> Result<Frame, Refusal> {
-        stretching::shorten(
-            Cabinet::Large,
-            self.rule,
-            &self.tree.lent(),
-            &mut self.drawn.lent_mut(),
-            &self.held,
-            &mut self.work,
-            node,
-            count,
-        )
-    }
-
-    fn hold(&mut self, node: u32, on: bool) -> Result<Frame, Refusal> {
-        holding::hold(
-            Cabinet::Large,
-            self.rule,
-            &self.tree.lent(),
-            &self.drawn.lent(),
-            &mut self.held,
-            &mut self.work,
-            node,
-            on,
-        )
+    // Lengthens, shortens, holds or frees.
+    fn make(&mut self, call: Call) -> Result<Frame, Refusal> {
+        let n = self.nodes as usize;
+        let rule = self.rule;
+        let tree = self.tree.lent(n);
+        let mut drawing = DrawingMut {
+            times: first_mut(&mut self.times, n),
+            x: first_mut(&mut self.x, n),
+            y: first_mut(&mut self.y, n),
+        };
+        let held = first_mut(&mut self.held, n);
+        let work = first_mut(&mut self.work, 4 * n);
+        match call {
+            Call::Lengthen(node, count) => {
+                stretching::lengthen(LARGE, rule, &tree, &mut drawing, held, work, node, count)
+            }
+            Call::Shorten(node, count) => {
+                stretching::shorten(LARGE, rule, &tree, &mut drawing, held, work, node, count)
+            }
+            Call::Hold(node) => {
+                holding::hold(LARGE, rule, &tree, &drawing.read(), held, work, node, true)
+            }
+            Call::Free(node) => {
+                holding::hold(LARGE, rule, &tree, &drawing.read(), held, work, node, false)
+            }
+        }
     }
 
     fn lengthen_each(&mut self, lots: &[u32], counts: &[u32]) -> Result<Frame, Stopped> {
-        arranging::lengthen_each(
-            Cabinet::Large,
-            self.rule,
-            &self.tree.lent(),
-            &mut self.drawn.lent_mut(),
-            &self.held,
-            &mut self.work,
-            lots,
-            counts,
-        )
+        let n = self.nodes as usize;
+        let rule = self.rule;
+        let tree = self.tree.lent(n);
+        let mut drawing = DrawingMut {
+            times: first_mut(&mut self.times, n),
+            x: first_mut(&mut self.x, n),
+            y: first_mut(&mut self.y, n),
+        };
+        let held = first(&self.held, n);
+        let work = first_mut(&mut self.work, 4 * n);
+        arranging::lengthen_each(LARGE, rule, &tree, &mut drawing, held, work, lots, counts)
     }
 
     fn column(&mut self, lot: u32, column: u32) -> Result<Option<u32>, Refusal> {
-        aligning::column(
-            Cabinet::Large,
-            self.rule,
-            &self.tree.lent(),
-            &self.drawn.lent(),
-            &self.held,
-            &mut self.work,
-            lot,
-            column,
-        )
+        let n = self.nodes as usize;
+        let rule = self.rule;
+        let tree = self.tree.lent(n);
+        let drawing = Drawing {
+            times: first(&self.times, n),
+            x: first(&self.x, n),
+            y: first(&self.y, n),
+        };
+        let held = first(&self.held, n);
+        let work = first_mut(&mut self.work, 4 * n);
+        aligning::column(LARGE, rule, &tree, &drawing, held, work, lot, column)
     }
 
     fn check(&mut self) -> Verdict {
-        monotone::check(
-            &self.tree.lent(),
-            &self.drawn.x,
-            &self.drawn.y,
-            &mut self.work,
-        )
+        let n = self.nodes as usize;
+        let tree = self.tree.lent(n);
+        let x = first(&self.x, n);
+        let y = first(&self.y, n);
+        let work = first_mut(&mut self.work, 4 * n);
+        monotone::check(&tree, x, y, work)
     }
 }
 
 impl fmt::Display for Sheet {
     fn fmt<W: fmt::Write>(&self, f: &mut fmt::Formatter<W>) -> fmt::Result {
-        let times = mixed(&self.drawn.times);
-        let x = mixed(&self.drawn.x);
-        let y = mixed(&self.drawn.y);
-        let held = mixed(&self.held);
+        let n = self.nodes as usize;
+        let drawing = self.drawing();
+        let times = mixed(drawing.times);
+        let x = mixed(drawing.x);
+        let y = mixed(drawing.y);
+        let held = mixed(first(&self.held, n));
         write!(f, "{times} {x} {y} {held}")
     }
 }
 
 // What is made of a sheet, with a line for each answer.
 impl Sheet {
-    // Lengthens, shortens, holds or frees.
-    fn make(&mut self, call: Call) -> Result<Frame, Refusal> {
-        match call {
-            Call::Lengthen(node, count) => self.lengthen(node, count),
-            Call::Shorten(node, count) => self.shorten(node, count),
-            Call::Hold(node) => self.hold(node, true),
-            Call::Free(node) => self.hold(node, false),
-        }
-    }
-
     // One call, its answer and what it leaves.
     fn show_call(&mut self, rt: &HostRuntime, call: Call) -> io::Result<()> {
         let answer = Shown(self.make(call));
@@ -481,8 +461,8 @@ impl Sheet {
         let n = self.nodes;
         let middle = self.middle();
         let last = self.last();
-        let a = number_of(&self.drawn.x, middle)?;
-        let b = number_of(&self.drawn.x, last)?;
+        let a = number_of(&self.x, middle)?;
+        let b = number_of(&self.x, last)?;
         let columns = [
             (middle, a),
             (middle, a.wrapping_add(1)),
@@ -505,7 +485,7 @@ impl Sheet {
     fn reach(&mut self, rt: &HostRuntime) -> io::Result<()> {
         let middle = self.middle();
         for k in (0..32u32).rev() {
-            let _ = self.lengthen(middle, 1 << k);
+            let _ = self.make(Call::Lengthen(middle, 1 << k));
         }
         self.show_call(rt, Call::Lengthen(middle, 1))
     }
@@ -513,9 +493,12 @@ impl Sheet {
     // The check's answer.
     fn judge(&mut self, rt: &HostRuntime) -> io::Result<()> {
         let answer = Shown(self.check());
-        let parent = mixed(&self.tree.parent);
-        let x = mixed(&self.drawn.x);
-        let y = mixed(&self.drawn.y);
+        let n = self.nodes as usize;
+        let tree = self.tree.lent(n);
+        let drawing = self.drawing();
+        let parent = mixed(tree.parent);
+        let x = mixed(drawing.x);
+        let y = mixed(drawing.y);
         println!(rt; "{answer} {parent} {x} {y}")
     }
 
@@ -523,15 +506,15 @@ impl Sheet {
     fn judge_twice(&mut self, rt: &HostRuntime) -> io::Result<()> {
         let middle = self.middle();
         self.judge(rt)?;
-        displace(&mut self.drawn.x, middle)?;
-        displace(&mut self.drawn.y, middle)?;
+        displace(&mut self.x, middle)?;
+        displace(&mut self.y, middle)?;
         self.judge(rt)
     }
 }
 
 // The tree of the case is drawn, stretched and checked.
-fn show_case(rt: &HostRuntime, case: Case) -> io::Result<()> {
-    let mut sheet = Sheet::zeroed(rt.alloc(), case)?;
+fn show_case(rt: &HostRuntime, sheet: &mut Sheet, case: Case) -> io::Result<()> {
+    sheet.take(case)?;
     let answer = Shown(sheet.layout());
     println!(rt; "{case} {answer} {sheet}")?;
     sheet.show_calls(rt)?;
@@ -542,7 +525,7 @@ fn show_case(rt: &HostRuntime, case: Case) -> io::Result<()> {
 }
 
 // Each tree with and without new numbers for the nodes, under both rules.
-fn show_cases(rt: &HostRuntime) -> io::Result<()> {
+fn show_cases(rt: &HostRuntime, sheet: &mut Sheet) -> io::Result<()> {
     for (shape, nodes) in TREES {
         for relabelled in [false, true] {
             for rule in [Rule::Steep, Rule::Balanced] {
@@ -552,7 +535,7 @@ fn show_cases(rt: &HostRuntime) -> io::Result<()> {
                     relabelled,
                     rule,
                 };
-                show_case(rt, case)?;
+                show_case(rt, sheet, case)?;
             }
         }
     }
@@ -560,18 +543,18 @@ fn show_cases(rt: &HostRuntime) -> io::Result<()> {
 }
 
 // The tallest tree of n nodes.
-fn show_tallest(rt: &HostRuntime, n: u32) -> io::Result<()> {
-    let mut tree = Tree::zeroed(rt.alloc(), n)?;
+fn show_tallest(rt: &HostRuntime, tree: &mut Tree, n: u32) -> io::Result<()> {
     let answer = Shown(tree.make_tallest(n));
-    println!(rt; "{n} {answer} {tree}")
+    let lists = Shown(tree.lent(n as usize));
+    println!(rt; "{n} {answer} {lists}")
 }
 
 // 1, 2, 4 and so on up to 65,536 nodes, and one more.
-fn show_tallest_trees(rt: &HostRuntime) -> io::Result<()> {
+fn show_tallest_trees(rt: &HostRuntime, tree: &mut Tree) -> io::Result<()> {
     for k in 0..17u32 {
-        show_tallest(rt, 1 << k)?;
+        show_tallest(rt, tree, 1 << k)?;
     }
-    show_tallest(rt, 65537)
+    show_tallest(rt, tree, 65537)
 }
 
 // The walks to the slopes of k levels, in order: k, then the across parts, the up parts and the numbers of turns.
@@ -600,6 +583,19 @@ fn show_all_walks(rt: &HostRuntime) -> io::Result<()> {
 
 fn main(rt: HostRuntime) -> io::Result<()> {
     show_all_walks(&rt)?;
-    show_tallest_trees(&rt)?;
-    show_cases(&rt)
+    let mut sheet = Sheet {
+        rule: Rule::Steep,
+        nodes: 0,
+        tree: Tree {
+            parent: [0; 65537],
+            rank: [0; 65537],
+        },
+        times: [0; 65537],
+        x: [0; 65537],
+        y: [0; 65537],
+        held: [0; 65537],
+        work: [0; 262148],
+    };
+    show_tallest_trees(&rt, &mut sheet.tree)?;
+    show_cases(&rt, &mut sheet)
 }
