@@ -69,7 +69,10 @@ pub fn column_within(
         (sheet_of (read drawing.now) held.now)
         work.old work.new lot column (aligned result) }
 {
-    examine(limits, rule, tree, drawing, held, work, lot)?;
+    // No `?` hands it on, in which the edit `refusal_turned` could turn nothing.
+    if let Err(refusal) = examine(limits, rule, tree, drawing, held, work, lot) {
+        return Err(refusal);
+    }
     let v = lot as usize;
     let numbered = Numbered {
         parent: tree.parent,

@@ -2,18 +2,19 @@
 use mathlib.Core.Bool.{true, false, ◌||◌}
 use mathlib.Core.List.{List}
 use mathlib.Core.Option.{Option}
-use mathlib.Core.Path.{◌≡◌, refl, sym, ap, subst, ◌∙◌}
-use Prim.Native.Nat.{ℕ, ◌≤◌}
+use mathlib.Core.Path.{◌≡◌, sym, ap, subst, ◌∙◌}
+use Prim.Native.Nat.{ℕ, ◌≤◌, ◌<◌}
 use lib.Dec.{leb}
 use lib.ListN.{length}
-use Rattle.laws.specs.Refusals.{or_else_first, or_else_second, refuse_yes, refuse_no}
+use native.Mathlib.Omega.{arith}
+use Rattle.laws.specs.Refusals.{or_else_first, or_else_second, refuse-none}
 use Rattle.laws.specs.Search.{Refusal, refused_or}
 use Rattle.table.specs.declared.Limits.{Limits}
 use Rattle.table.specs.Validity.{Validity}
 use Rattle.table.specs.Validity.{Accepted, Refused as Invalid}
 use Rattle.table.specs.Numbering.{NumberedTree}
 use Rattle.table.specs.Table.{large}
-use Rattle.table.specs.Acceptance.{accepting}
+use Rattle.table.specs.Acceptance.{accepting, validity, validity_refused, validity-accepted}
 use Rattle.table.specs.Parts.{Prepared, fault, no_fault}
 use Rattle.slopes.specs.declared.Rule.{Rule}
 use Rattle.direction.specs.Heading.{Heading}
@@ -25,21 +26,25 @@ use Rattle.direction.specs.Parts.{PairAnswered}
 -- Refusal 9, and none
 
 module _ (P R : List ℕ) (rule : Rule) (u v : ℕ) where
-  answer-by : (f : Option Refusal) → pair_fault (length P) u v ≡ f
-      → {r : Heading} → r ≡ refused_or Refused f (course P R rule u v) → PairAnswered P R rule u v r
-  answer-by f e q = record {
-    answer = q ∙ ap (λ (f : Option Refusal). refused_or Refused f (course P R rule u v))
-        (sym e);
+  pub no_node : {k z : ℕ} → Invalid k z ≡ validity (pair_fault (length P) u v) → PairAnswered P R rule u v (Refused k z)
+  no_node {k} {z} e = record {
+    answer = ap (λ (f : Option Refusal). refused_or Refused f (course P R rule u v))
+        (sym (validity_refused _ k z (sym e)));
   }
 
-  pub no_node : leb (length P) u || leb (length P) v ≡ true → PairAnswered P R rule u v (Refused 9 0)
-  unfolding pair_fault
-  no_node h = answer-by _ (refuse_yes _ 9 0 h) refl
-
-  pub both_nodes : leb (length P) u || leb (length P) v ≡ false → {r : Heading} → r ≡ course P R rule u v
+  pub both_nodes : Accepted ≡ validity (pair_fault (length P) u v) → {r : Heading} → r ≡ course P R rule u v
       → PairAnswered P R rule u v r
-  unfolding pair_fault
-  both_nodes h = answer-by _ (refuse_no _ 9 0 h)
+  both_nodes e q = record {
+    answer = q ∙ ap (λ (f : Option Refusal). refused_or Refused f (course P R rule u v))
+        (sym (validity-accepted _ (sym e)));
+  }
+
+pub inside : (n u v : ℕ) → Accepted ≡ validity (pair_fault n u v) → (u < n) × (v < n)
+unfolding pair_fault
+inside n u v e = outside_neither n u v (refuse-none _ 9 0 (validity-accepted _ (sym e)))
+  where
+    outside_neither : (n u v : ℕ) → leb n u || leb n v ≡ false → (u < n) × (v < n)
+    outside_neither n u v h = grind arith
 
 ------------------------------------------------------------------------
 -- After the tests, which leave X in the work list W

@@ -324,9 +324,9 @@ pub extern "C" fn lineage_small_layout(
         return false;
     }
     let tree = Tree { parent, rank };
-    let mut drawing = DrawingMut { times, x, y };
+    let mut fresh = DrawingMut { times, x, y };
     let rule = rule_of(balanced);
-    let answer = drawing::layout(Cabinet::Small, rule, &tree, &mut drawing, held, work);
+    let answer = drawing::layout(Cabinet::Small, rule, &tree, &mut fresh, held, work);
     put_framed(reply, answer);
     true
 }
@@ -357,10 +357,10 @@ pub extern "C" fn lineage_small_lengthen(
         return false;
     }
     let tree = Tree { parent, rank };
-    let mut drawing = DrawingMut { times, x, y };
+    let mut lengthened = DrawingMut { times, x, y };
     let rule = rule_of(balanced);
     let small = Cabinet::Small;
-    let answer = stretching::lengthen(small, rule, &tree, &mut drawing, held, work, lot, count);
+    let answer = stretching::lengthen(small, rule, &tree, &mut lengthened, held, work, lot, count);
     put_framed(reply, answer);
     true
 }
@@ -391,10 +391,10 @@ pub extern "C" fn lineage_small_shorten(
         return false;
     }
     let tree = Tree { parent, rank };
-    let mut drawing = DrawingMut { times, x, y };
+    let mut shortened = DrawingMut { times, x, y };
     let rule = rule_of(balanced);
     let small = Cabinet::Small;
-    let answer = stretching::shorten(small, rule, &tree, &mut drawing, held, work, lot, count);
+    let answer = stretching::shorten(small, rule, &tree, &mut shortened, held, work, lot, count);
     put_framed(reply, answer);
     true
 }

@@ -1,20 +1,20 @@
 -- Refusal 9, of either node; after it the heading is read off the numbers.
-use mathlib.Core.Logic.{⊎_elim}
-use lib.Dec.{leb}
-use lib.ListN.{length}
-use borrow.Author.Tests.{le-leb, lt-leb}
-use Rattle.laws.specs.Tests.{either_first, either_second, neither_is}
-use Rattle.direction.proofs.Replies.{no_node, both_nodes}
+use Rattle.std.proofs.lemmas.Result.{err_from_is_err_and}
+use Rattle.direction.proofs.Replies.{no_node, both_nodes, inside}
 use Rattle.direction.proofs.accepted.Goals as goal
 
-pub returns-then-n-u : goal.returns-then-n-u
-returns-then-n-u c =
-    rw c.at.ensures (no_node c.args.tree.now.parent.now c.args.tree.now.rank.now c.args.rule c.args.u c.args.v
-    (⊎_elim (λ first. either_first _ _ (le-leb _ _ first))
-    (λ second. either_second (leb (length c.args.tree.now.parent.now) c.args.u) _ (le-leb _ _ second.1))
-    c.then-n-u.either))
+pub returns-in_err-test_pair : goal.returns-in_err-test_pair
+returns-in_err-test_pair c =
+    let p = err_from_is_err_and c.from_residual.result c.from_residual.ensures.1 in
+    rw (p.1, p.2) (no_node c.args.tree.now.parent.now c.args.tree.now.rank.now c.args.rule c.args.u c.args.v
+    c.in_err-test_pair.ensures)
+
+pub heading_of-requires : goal.heading_of-requires
+heading_of-requires c =
+    let pair = inside _ _ _ c.in_ok-test_pair.ensures in
+    (c.requires, record { first = pair.0; second = pair.1 })
 
 pub returns : goal.returns
 returns c =
     both_nodes c.args.tree.now.parent.now c.args.tree.now.rank.now c.args.rule c.args.u c.args.v
-    (neither_is (lt-leb _ _ c.if-n-u.false) (lt-leb _ _ c.if-n-v.false)) c.heading_of.ensures
+    c.in_ok-test_pair.ensures c.heading_of.ensures
